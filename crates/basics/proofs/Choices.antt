@@ -1,0 +1,49 @@
+-- The laws of a choice and of two tests at once.
+-- Assumes nothing.
+use mathlib.Core.Path.{_≡_, refl, sym, subst}
+use mathlib.Core.Bool.{Bool, true, false}
+use Rattle.basics.specs.Choice.{ite, both}
+
+pub ite-true {ℓ} : {A : Type ℓ} {b : Bool} (x y : A) → b ≡ true → ite b x y ≡ x
+unfolding ite
+ite-true x y h = rw h
+
+pub ite-false {ℓ} : {A : Type ℓ} {b : Bool} (x y : A) → b ≡ false → ite b x y ≡ y
+unfolding ite
+ite-false x y h = rw h
+
+-- what holds of both outcomes, each where its test came out so, holds of the choice
+pub ite-case {ℓ κ} : {A : Type ℓ} (P : A → Type κ) (b : Bool) (x y : A) → (b ≡ true → P x) → (b ≡ false → P y) → P (ite b x y)
+unfolding ite
+ite-case P true x y f g = f refl
+ite-case P false x y f g = g refl
+
+pub both-left : (a b : Bool) → both a b ≡ true → a ≡ true
+unfolding both
+both-left true b h = refl
+both-left false b h = h
+
+pub both-right : (a b : Bool) → both a b ≡ true → b ≡ true
+unfolding both
+both-right true b h = h
+both-right false b h = absurd (no-true h)
+  where
+    no-true : false ≡ true → ⊥
+    no-true e = subst (λ (c : Bool). tell c) e tt
+      where
+        tell : Bool → Type 0
+        tell true = ⊥
+        tell false = Unit {0}
+
+pub both-true : {a b : Bool} → a ≡ true → b ≡ true → both a b ≡ true
+unfolding both
+both-true ha hb = rw (ha, hb)
+
+pub both-false-left : {a : Bool} (b : Bool) → a ≡ false → both a b ≡ false
+unfolding both
+both-false-left b h = rw h
+
+pub both-false-right : (a : Bool) {b : Bool} → b ≡ false → both a b ≡ false
+unfolding both
+both-false-right true h = h
+both-false-right false h = refl

@@ -1,0 +1,4 @@
+pub mod Cases
+pub mod Outcomes
+pub mod Laws
+pub mod Writing
