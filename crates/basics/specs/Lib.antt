@@ -1,2 +1,4 @@
 pub mod Choice
+pub mod Below
+pub mod Refusal
 pub mod Outcome

@@ -11,8 +11,10 @@ use Rattle.compared.proofs.compared_read_value.Kinds as read-value-kind
 use Rattle.compared.proofs.compared_read_value.Reads as read-value
 use Rattle.compared.proofs.compared_read_used.Kinds as read-used-kinds
 use Rattle.compared.proofs.compared_read_used.Reads as read-used
-use Rattle.compared.proofs.compared_write.Kinds as write-kinds
-use Rattle.compared.proofs.compared_write.Reads as write
+use Rattle.compared.proofs.compared_write_refusal.Kinds as write-refusal-kinds
+use Rattle.compared.proofs.compared_write_refusal.Reads as write-refusal
+use Rattle.compared.proofs.compared_write_used.Kinds as write-used-kinds
+use Rattle.compared.proofs.compared_write_used.Reads as write-used
 
 pub read-refusal-only : OneResult 1 read-refusal-kinds.ps read-refusal-kinds.r read-refusal.Post
 read-refusal-only κs a x y e f p q = p ∙ sym q
@@ -26,5 +28,8 @@ read-value-only κs a x y e f p q = p ∙ sym q
 pub read-used-only : OneResult 1 read-used-kinds.ps read-used-kinds.r read-used.Post
 read-used-only κs a x y e f p q = p ∙ sym q
 
-pub write-only : OneOutcome 1 write-kinds.ps write-kinds.r (λ κs e. now (e .1 .1 .0)) write.Post
-write-only κs a x y e f p q = (p .0 ∙ sym (q .0), p .1 ∙ sym (q .1))
+pub write-refusal-only : OneOutcome 1 write-refusal-kinds.ps write-refusal-kinds.r (λ κs e. now (e .1 .1 .0)) write-refusal.Post
+write-refusal-only κs a x y e f p q = (p .0 ∙ sym (q .0), p .1 ∙ sym (q .1))
+
+pub write-used-only : OneOutcome 1 write-used-kinds.ps write-used-kinds.r (λ κs e. now (e .1 .1 .0)) write-used.Post
+write-used-only κs a x y e f p q = (p .0 ∙ sym (q .0), p .1 ∙ sym (q .1))

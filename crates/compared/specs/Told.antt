@@ -25,3 +25,7 @@ readUsed (Read.Refused r) = 0
 abbrev pub writeRefusal : Put → ℕ
 writeRefusal (Wrote.Used n) = 0
 writeRefusal (Wrote.Refused r) = r
+
+abbrev pub writeUsed : Put → ℕ
+writeUsed (Wrote.Used n) = n
+writeUsed (Wrote.Refused r) = 0

@@ -1,7 +1,7 @@
 // The proved calls, exported on numbers and byte slices for the comparison with the second program.
 ghost use mathlib.Core.Path.{_≡_};
 ghost use Rattle.wire.specs.Messages.{reading, writing};
-ghost use Rattle.compared.specs.Told.{readRefusal, readKind, readValue, readUsed, writeRefusal};
+ghost use Rattle.compared.specs.Told.{readRefusal, readKind, readValue, readUsed, writeRefusal, writeUsed};
 use wire::Put;
 use wire::Taken;
 
@@ -62,11 +62,21 @@ pub extern "C" fn compared_read_used(bytes: &[u8]) -> usize
 }
 
 #[no_mangle]
-pub extern "C" fn compared_write(kind: u8, value: u32, area: &mut [u8]) -> u8
+pub extern "C" fn compared_write_refusal(kind: u8, value: u32, area: &mut [u8]) -> u8
     ensures { λ r. ⌜ (r ≡ writeRefusal (writing kind value (now (area .entry)) .answer)) × (now (area .exit) ≡ writing kind value (now (area .entry)) .area) ⌝ }
 {
     match wire::write_message(kind, value, area) {
         Put::Used(_) => 0,
         Put::Refused(r) => r,
+    }
+}
+
+#[no_mangle]
+pub extern "C" fn compared_write_used(kind: u8, value: u32, area: &mut [u8]) -> usize
+    ensures { λ r. ⌜ (r ≡ writeUsed (writing kind value (now (area .entry)) .answer)) × (now (area .exit) ≡ writing kind value (now (area .entry)) .area) ⌝ }
+{
+    match wire::write_message(kind, value, area) {
+        Put::Used(n) => n,
+        Put::Refused(_) => 0,
     }
 }

@@ -1,9 +1,9 @@
--- `compared::compared_write` meets its contract. Assumes nothing.
+-- `compared::compared_write_refusal` meets its contract. Assumes nothing.
 use borrow.Author.Needs.{needs}
 use mathlib.Core.Path.{sym, ap, _∙_}
 use Rattle.wire.specs.Messages.{Written}
-use Rattle.compared.proofs.compared_write.Statement.{statement}
-use Rattle.compared.proofs.compared_write.Tie as tie
+use Rattle.compared.proofs.compared_write_refusal.Statement.{statement}
+use Rattle.compared.proofs.compared_write_refusal.Tie as tie
 use Rattle.compared.specs.Told.{writeRefusal}
 
 write-message-requires : tie.Need-write-message-requires
@@ -27,8 +27,8 @@ same-length-2 c = search needs
 returns-2 : tie.Need-returns-2
 returns-2 c = (ap writeRefusal (sym (c .before .r .given .1)) ∙ ap (λ (o : Written). writeRefusal (o .answer)) (c .before .before .before .before .before .write-message .ensures), ap (λ (o : Written). o .area) (c .before .before .before .before .before .write-message .ensures))
 
-pub compared-write-spec : {M : Type 1} → statement M
-compared-write-spec =
+pub compared-write-refusal-spec : {M : Type 1} → statement M
+compared-write-refusal-spec =
     tie.close
     (tie.spec
     write-message-requires

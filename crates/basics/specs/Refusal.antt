@@ -1,0 +1,15 @@
+-- Refusals in the order in which they are tried: a list of tests with their numbers. The first test that comes out true
+-- gives its number; 0 where none does.
+-- Assumes nothing.
+use Prim.Native.Nat.{ℕ}
+use mathlib.Core.Bool.{Bool}
+use mathlib.Core.List.{List, [], _∷_}
+use Rattle.basics.specs.Choice.{ite}
+
+pub record Trial : Type 0 where
+  pub number : ℕ
+  pub given : Bool
+
+unfoldable pub firstOf : List Trial → ℕ
+firstOf [] = 0
+firstOf (t ∷ ts) = ite (t .given) (t .number) (firstOf ts)

@@ -1,0 +1,33 @@
+-- Which of the n panels pass a test, and whether they are enough: "at least n−t panels".
+-- Assumes nothing.
+use Prim.Native.Nat.{ℕ, _-_}
+use mathlib.Core.Bool.{Bool}
+use mathlib.Core.List.{List}
+use lib.Dec.{leb, ltb, eqb}
+use Rattle.basics.specs.Choice.{both}
+use Rattle.basics.specs.Below.{countBelow, listBelow}
+use Rattle.tables.specs.declared.WriteNo.{WriteNo}
+use Rattle.tables.specs.declared.ReadNo.{ReadNo}
+use Rattle.tables.specs.Places.{wAt, rAt}
+
+-- the tests of Figure 1: w[j] = x (lines 2, 3, 15), w[j] ≥ x (line 9), r[j] = y (line 7), at place j
+unfoldable pub hasW : List WriteNo → ℕ → ℕ → Bool
+hasW ws x j = eqb (wAt ws j) x
+
+unfoldable pub reachesW : List WriteNo → ℕ → ℕ → Bool
+reachesW ws x j = leb x (wAt ws j)
+
+unfoldable pub hasR : List ReadNo → ℕ → ℕ → Bool
+hasR rs y j = eqb (rAt rs j) y
+
+-- place j is one of the n panels, and passes f
+unfoldable pub among : ℕ → (ℕ → Bool) → ℕ → Bool
+among n f j = both (ltb j n) (f j)
+
+-- the panels that pass f, as marks at the seven places
+unfoldable pub marks : ℕ → (ℕ → Bool) → List Bool
+marks n f = listBelow 7 (among n f)
+
+-- at least n−t of the n panels pass f (lines 3, 7 and 9)
+unfoldable pub enough : ℕ → ℕ → (ℕ → Bool) → Bool
+enough n t f = leb (n - t) (countBelow 7 (among n f))
