@@ -1,10 +1,12 @@
 -- The lent message area, three slices: the messages stand in the first places, and "places after the last message are
 -- unchanged".
 -- Assumes nothing.
-use Prim.Native.Nat.{ℕ, suc, min}
+use Prim.Native.Nat.{ℕ, suc, min, _+_}
+use mathlib.Core.Path.{_≡_}
 use mathlib.Core.List.{List, [], _∷_, map}
 use lib.ListN.{length, set}
-use Rattle.messages.specs.Sends.{Message}
+use Rattle.messages.specs.declared.Sends.{Sends}
+use Rattle.messages.specs.Sends.{Message, messagesOf}
 
 pub record Area : Type 0 where
   pub receivers : List ℕ
@@ -37,3 +39,17 @@ laidIn at ms a =
 -- how many messages the area holds: the three slices are one area
 unfoldable pub roomOf : Area → ℕ
 roomOf a = min (length (a .receivers)) (min (length (a .kinds)) (length (a .values)))
+
+-- what laying leaves: how many messages there are, and the area
+pub record Laid : Type 0 where
+  pub count : ℕ
+  pub area : Area
+
+-- all that one event sends, in the area's first places
+unfoldable pub laying : Sends → Area → Laid
+laying s a = record { count = length (messagesOf s); area = laidIn 0 (messagesOf s) a }
+
+-- from l to m the messages ms were laid, behind those that stood there: the steps of the code that lays
+pub record Further (l : Laid) (ms : List Message) (m : Laid) : Type 0 where
+  pub count-is : m .count ≡ l .count + length ms
+  pub area-is : m .area ≡ laidIn (l .count) ms (l .area)

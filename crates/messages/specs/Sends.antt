@@ -2,7 +2,7 @@
 -- PROCEEDs". A message is "a receiver, a kind and a value (zero for READ and PROCEED)".
 -- Assumes nothing.
 use Prim.Native.Nat.{ℕ, zero, suc, _+_}
-use mathlib.Core.Bool.{Bool, true, false}
+use mathlib.Core.Bool.{false}
 use mathlib.Core.List.{List, [], _∷_, _++_}
 use lib.ListN.{getD, replicate}
 use Rattle.basics.specs.Choice.{ite}

@@ -1,8 +1,6 @@
 -- A line of waiting READs: one joins at the end (line 20 does not hold yet), some leave from the front (line 20 holds now).
 -- Assumes nothing.
 use Prim.Native.Nat.{ℕ, zero, suc, _+_, _-_}
-use mathlib.Core.Bool.{Bool}
-use mathlib.Core.List.{List}
 use lib.Dec.{leb}
 use lib.ListN.{getD, set}
 use Rattle.basics.specs.Choice.{ite}

@@ -1,0 +1,4 @@
+pub mod Cases
+pub mod Laying
+pub mod Messages
+pub mod Outcomes

@@ -1,0 +1,14 @@
+pub mod Cases
+pub mod Stores
+pub mod Passing
+pub mod InForm
+pub mod Shape
+pub mod Places
+pub mod KeptStarts
+pub mod KeptPeers
+pub mod Taking
+pub mod KeptTake
+pub mod Kept
+pub mod InForming
+pub mod Looking
+pub mod Refusing

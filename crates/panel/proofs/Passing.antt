@@ -1,0 +1,99 @@
+-- What an event that no refusal meets has passed.
+-- Assumes nothing.
+use mathlib.Core.Path.{_≡_, refl, sym, ap, _∙_}
+use mathlib.Core.Bool.{Bool, true, false, not}
+use mathlib.Core.List.{List, [], _∷_, _++_}
+use mathlib.Core.Logic.{_≢_}
+use Prim.Native.Nat.{ℕ, _+_, _-_, _≤_, _<_}
+use native.Mathlib.Omega.{arith}
+use lib.Dec.{leb, ltb, eqb, lit<}
+use borrow.Author.Tests.{ltb-false, leb-true, leb-false, eqb-false, eq-eqb, not-true, not-false}
+use Rattle.basics.specs.Choice.{ite, both}
+use Rattle.basics.specs.Refusal.{Trial, firstOf}
+use Rattle.basics.proofs.Choices.{both-left, both-right}
+use Rattle.basics.proofs.Refusals.{Passes, passed}
+use Rattle.tables.specs.Places.{wAt, rAt, holdAt, lineAt}
+use Rattle.panel.specs.declared.Panel.{Panel}
+use Rattle.panel.specs.Setting.{ownW, ownR}
+use Rattle.panel.specs.Form.{inForm, isPanel, atWriter}
+use Rattle.panel.specs.Events.{isPeer, isIdle, rightBit, tooHigh, stray, lineFull, firstTrials, peerTrials, writeTrials, readTrials, writeFromTrials, readFromTrials, proceedFromTrials}
+
+-- a write may start
+pub record MayWrite (p : Panel) (room : ℕ) : Type 0 where
+  pub form : inForm p ≡ true
+  pub roomy : 107 ≤ room
+  pub writer : atWriter p ≡ true
+  pub idle : isIdle (p .operation) ≡ true
+  pub left : ownW p < 200
+
+pub may-write : (p : Panel) (room : ℕ) → firstOf (writeTrials p room) ≡ 0 → MayWrite p room
+unfolding writeTrials firstTrials
+may-write p room e =
+    let h : Passes (writeTrials p room) = passed (writeTrials p room) (lit< tt, (lit< tt, (lit< tt, (lit< tt, (lit< tt, tt))))) e in
+    record {
+      form = not-false _ (h .0);
+      roomy = ltb-false _ _ (h .1 .0);
+      writer = not-false _ (h .1 .1 .0);
+      idle = not-false _ (h .1 .1 .1 .0);
+      left = leb-false _ _ (h .1 .1 .1 .1 .0);
+    }
+
+-- a read may start
+pub record MayRead (p : Panel) (room : ℕ) : Type 0 where
+  pub form : inForm p ≡ true
+  pub roomy : 107 ≤ room
+  pub idle : isIdle (p .operation) ≡ true
+  pub left : ownR p < 100
+
+pub may-read : (p : Panel) (room : ℕ) → firstOf (readTrials p room) ≡ 0 → MayRead p room
+unfolding readTrials firstTrials
+may-read p room e =
+    let h : Passes (readTrials p room) = passed (readTrials p room) (lit< tt, (lit< tt, (lit< tt, (lit< tt, tt)))) e in
+    record {
+      form = not-false _ (h .0);
+      roomy = ltb-false _ _ (h .1 .0);
+      idle = not-false _ (h .1 .1 .0);
+      left = leb-false _ _ (h .1 .1 .1 .0);
+    }
+
+-- a message may come from j
+pub record MayCome (p : Panel) (room j : ℕ) : Type 0 where
+  pub form : inForm p ≡ true
+  pub roomy : 107 ≤ room
+  pub low : 1 ≤ j
+  pub high : j ≤ p .n
+  pub other : j ≢ p .number
+
+come : (p : Panel) (room j : ℕ) → inForm p ≡ true → 107 ≤ room → isPeer p j ≡ true → MayCome p room j
+unfolding isPeer isPanel
+come p room j f r h =
+    record {
+      form = f;
+      roomy = r;
+      low = leb-true _ _ (both-left _ _ (both-left _ _ h));
+      high = leb-true _ _ (both-right _ _ (both-left _ _ h));
+      other = eqb-false _ _ (not-true _ (both-right _ _ h));
+    }
+
+module _ (p : Panel) (room j : ℕ) where
+  -- with one more test behind those of a peer
+  pub may-come : (k : ℕ) (b : Bool) → 0 < k → firstOf (peerTrials p room j ++ (record { number = k; given = b } ∷ [])) ≡ 0 → MayCome p room j × (b ≡ false)
+  unfolding peerTrials firstTrials
+  may-come k b n e =
+      let h : Passes (peerTrials p room j ++ (record { number = k; given = b } ∷ []))
+      = passed (peerTrials p room j ++ (record { number = k; given = b } ∷ [])) (lit< tt, (lit< tt, (lit< tt, (n, tt)))) e in
+      (come p room j (not-false _ (h .0)) (ltb-false _ _ (h .1 .0)) (not-false _ (h .1 .1 .0)), h .1 .1 .1 .0)
+
+  pub may-write-from : (b : Bool) → firstOf (writeFromTrials p room j b) ≡ 0 → MayCome p room j × (stray p (j - 1) b ≡ false)
+  unfolding writeFromTrials
+  may-write-from b e = may-come 11 (stray p (j - 1) b) (lit< tt) e
+
+  pub may-read-from : firstOf (readFromTrials p room j) ≡ 0 → MayCome p room j × (lineFull p (j - 1) ≡ false)
+  unfolding readFromTrials
+  may-read-from e = may-come 13 (lineFull p (j - 1)) (lit< tt) e
+
+  pub may-proceed-from : firstOf (proceedFromTrials p room j) ≡ 0 → MayCome p room j × (rAt (p .r) (j - 1) ≢ ownR p)
+  unfolding proceedFromTrials
+  may-proceed-from e =
+      let h : MayCome p room j × (eqb (rAt (p .r) (j - 1)) (ownR p) ≡ false) = may-come 12 (eqb (rAt (p .r) (j - 1)) (ownR p)) (lit< tt) e in
+      (h .0, eqb-false _ _ (h .1))

@@ -1,0 +1,44 @@
+-- What the panel's private functions ask of their callers. Every public call shows these for itself.
+-- Assumes nothing.
+use Prim.Native.Nat.{ℕ, _+_, _≤_, _<_}
+use mathlib.Core.Path.{_≡_}
+use mathlib.Core.Bool.{true}
+use Rattle.tables.specs.Places.{wAt, holdAt}
+use Rattle.panel.specs.declared.Operation.{Operation}
+use Rattle.panel.specs.declared.Operation.the-variants.{Idle, Writing, FirstWait, SecondWait}
+use Rattle.panel.specs.declared.Panel.{Panel}
+use Rattle.panel.specs.Setting.{ownW}
+
+-- the panel's own number is a place of its tables
+pub record Sized (p : Panel) : Type 0 where
+  pub low : 1 ≤ p .number
+  pub high : p .number ≤ 7
+
+-- the sn of the second wait
+unfoldable pub snOf : Operation → ℕ
+snOf Idle = 0
+snOf Writing = 0
+snOf FirstWait = 0
+snOf (SecondWait sn) = sn .0
+
+-- the next WRITE of the peer at place k can be taken
+pub record Takes (p : Panel) (k : ℕ) : Type 0 where
+  pub sized : Sized p
+  pub place : k < 7
+  pub own-top : ownW p ≤ 200
+  pub next : wAt (p .w) k < 200
+  pub below : wAt (p .w) k ≤ ownW p
+
+-- a held WRITE of the peer at place k can be taken, if there is one
+pub record TakesHeld (p : Panel) (k : ℕ) : Type 0 where
+  pub sized : Sized p
+  pub place : k < 7
+  pub own-top : ownW p ≤ 200
+  pub next : holdAt (p .held) k .full ≡ true → wAt (p .w) k < 200
+  pub below : wAt (p .w) k ≤ ownW p
+
+-- the operation can be looked at
+pub record Looks (p : Panel) : Type 0 where
+  pub sized : Sized p
+  pub own-top : ownW p ≤ 200
+  pub sn-top : snOf (p .operation) ≤ 200

@@ -1,0 +1,64 @@
+-- `tables::reaches_w` meets its contract. Assumes nothing.
+use Prim.Native.Nat.{_≤_, _-_}
+use borrow.Author.Needs.{needs}
+use lib.ListN.{drop}
+use mathlib.Core.Bool.{false}
+use mathlib.Core.List.{_++_, append-nil}
+use mathlib.Core.Path.{_≡_}
+use native.Mathlib.Omega.{arith}
+use Rattle.basics.specs.Below.{listBelow}
+use Rattle.tables.proofs.Filling.{filled-none, filled-next}
+use Rattle.tables.proofs.reaches_w.Statement.{statement}
+use Rattle.tables.proofs.reaches_w.Tie as tie
+use Rattle.tables.specs.Marks.{reachesW, among, marks}
+
+abbrev Inv-loop : tie.InvT-loop
+Inv-loop n x ws end marked₀ j₀ marked j = (j ≤ 7) × (marked ≡ listBelow j (among n (reachesW ws x)) ++ drop j marked₀)
+
+abbrev μ-loop : tie.MeasureT-loop
+μ-loop n x ws end marked₀ j₀ marked j = 7 - j
+
+wide-requires : tie.Need-wide-requires Inv-loop μ-loop
+wide-requires c κs = search needs
+
+loop-holds : tie.Need-loop-holds Inv-loop μ-loop
+loop-holds c = (search needs, filled-none _ _)
+
+element-copy-out-both : tie.Need-element-copy-out-both Inv-loop μ-loop
+element-copy-out-both c = search needs
+
+both-requires : tie.Need-both-requires Inv-loop μ-loop
+both-requires c κs = search needs
+
+array-write-marked : tie.Need-array-write-marked Inv-loop μ-loop
+array-write-marked c = search needs
+
+add-j : tie.Need-add-j Inv-loop μ-loop
+add-j c = search needs
+
+loop-less : tie.Need-loop-less Inv-loop μ-loop
+loop-less c = search needs
+
+loop-again : tie.Need-loop-again Inv-loop μ-loop
+unfolding among reachesW
+loop-again c = let i = c .before .before .loop .inv in (omega arith, simp (c .both .ensures, c .before .before .before .wide .ensures .0, i .1) (filled-next _ false _ _ (omega arith)))
+
+returns : tie.Need-returns Inv-loop μ-loop
+unfolding marks
+returns c = let e : c .before .loop .j ≡ 7 = omega arith in simp (c .before .loop .inv .1, e, append-nil)
+
+pub reaches-w-spec : {M : Type 1} → statement M
+reaches-w-spec =
+    tie.close
+    (tie.spec
+    Inv-loop
+    μ-loop
+    wide-requires
+    loop-holds
+    element-copy-out-both
+    both-requires
+    array-write-marked
+    add-j
+    loop-less
+    loop-again
+    returns)
