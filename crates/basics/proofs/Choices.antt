@@ -1,6 +1,6 @@
 -- The laws of a choice and of two tests at once.
 -- Assumes nothing.
-use mathlib.Core.Path.{_≡_, refl, sym, subst}
+use mathlib.Core.Path.{_≡_, refl, sym, subst, _∙_}
 use mathlib.Core.Bool.{Bool, true, false}
 use Rattle.basics.specs.Choice.{ite, both}
 
@@ -18,6 +18,14 @@ unfolding ite
 ite-case P true x y f g = f refl
 ite-case P false x y f g = g refl
 
+-- no test comes out both ways
+pub clash : {A : Type 0} {b : Bool} → b ≡ false → b ≡ true → A
+clash {A} {b} f t = absurd (subst (λ (c : Bool). tell c) (sym f ∙ t) tt)
+  where
+    tell : Bool → Type 0
+    tell true = ⊥
+    tell false = Unit {0}
+
 pub both-left : (a b : Bool) → both a b ≡ true → a ≡ true
 unfolding both
 both-left true b h = refl
@@ -26,14 +34,7 @@ both-left false b h = h
 pub both-right : (a b : Bool) → both a b ≡ true → b ≡ true
 unfolding both
 both-right true b h = h
-both-right false b h = absurd (no-true h)
-  where
-    no-true : false ≡ true → ⊥
-    no-true e = subst (λ (c : Bool). tell c) e tt
-      where
-        tell : Bool → Type 0
-        tell true = ⊥
-        tell false = Unit {0}
+both-right false b h = clash refl h
 
 pub both-true : {a b : Bool} → a ≡ true → b ≡ true → both a b ≡ true
 unfolding both

@@ -9,7 +9,7 @@ use lib.Dec.{leb, ltb, eqb}
 use borrow.Author.Tests.{le-leb, leb-true, ltb-false, eqb-true}
 use Rattle.basics.specs.Choice.{ite, both}
 use Rattle.basics.specs.Refusal.{firstOf}
-use Rattle.basics.proofs.Choices.{ite-true, ite-false, ite-case, both-true, both-left}
+use Rattle.basics.proofs.Choices.{clash, ite-true, ite-false, ite-case, both-true, both-left}
 use Rattle.tables.specs.declared.WriteNo.{WriteNo}
 use Rattle.tables.specs.Places.{wAt, holdAt}
 use Rattle.tables.specs.Marks.{hasW, reachesW, hasR, enough}
@@ -26,10 +26,9 @@ use Rattle.panel.specs.Rules.{holdRule, takeRule}
 use Rattle.panel.specs.Look.{lookWriting, lookSecond, lookFirst, lookAs, look}
 use Rattle.panel.specs.Events.{Event, rightBit, tooHigh, stray, trials, refusal, rule, refusedBy, lookedAt, happens}
 use Rattle.panel.specs.Events.Event.{write, read, writeFrom, readFrom, proceedFrom}
-use Rattle.panel.proofs.Passing.{MayWrite, may-write, MayRead, may-read, MayCome, may-write-from, may-read-from, may-proceed-from}
+use Rattle.panel.proofs.Passing.{MayWrite, may-write, MayRead, may-read, MayCome, may-write-from, may-read-from, may-proceed-from, low-right, low-held}
 use Rattle.panel.proofs.InForm.{InForm, form-view, form-of}
 use Rattle.panel.proofs.Shape.{Shaped}
-use Rattle.panel.proofs.Places.{clash}
 use Rattle.panel.proofs.KeptStarts.{own-place, kept-write, kept-read}
 use Rattle.panel.proofs.KeptPeers.{PeerPlace, kept-proceed, kept-read-from, kept-held}
 use Rattle.panel.proofs.KeptTake.{kept-take}
@@ -100,41 +99,14 @@ peer-place p room j f m =
     record { seven = omega arith; within = omega arith; other = λ e. other (omega arith); number-other = λ e. other (omega arith) }
 
 module _ (p : Panel) (g : Good p) where
-  -- a number that is not too high
-  low-number : (x : ℕ) → tooHigh p x ≡ false → (x ≤ 200) × (atWriter p ≡ true → x ≤ ownW p)
-  unfolding tooHigh
-  low-number x h = (ltb-false 200 x first, λ w. ltb-false (ownW p) x (second w))
-    where
-      first : ltb 200 x ≡ false
-      first = by (ltb 200 x) refl
-        where
-          by : (b : Bool) → ltb 200 x ≡ b → b ≡ false
-          by true e = clash h (ite-true _ _ e)
-          by false e = refl
-
-      second : atWriter p ≡ true → ltb (ownW p) x ≡ false
-      second w = by (ltb (ownW p) x) refl
-        where
-          by : (b : Bool) → ltb (ownW p) x ≡ b → b ≡ false
-          by true e = clash h (ite-false _ _ first ∙ both-true w e)
-          by false e = refl
-
   kept-write-from : (k : ℕ) (b : Bool) (v : ℕ) → PeerPlace p k → stray p k b ≡ false → Good (ite (rightBit p k b) (takeRule p k v) (holdRule p k v) .panel)
-  unfolding stray
   kept-write-from k b v at s =
       ite-case (λ (q : Ruled). Good (q .panel)) (rightBit p k b) _ _
-      (λ r. let low = low-number (wAt (p .w) k + 1) (sym (ite-true _ _ r) ∙ s) in
+      (λ r. let low = low-right p k b s r in
       let o = kept-take p (g .shape) (g .form) k at v (low .0) in record { form = o .0; shape = o .1 })
-      (λ r. let low = low-number (wAt (p .w) k + 2) (held-low (sym (ite-false _ _ r) ∙ s)) in
+      (λ r. let low = low-held p k b s r in
       let o = kept-held p (g .shape) (g .form) k at v (record { next-exists = λ _. low .0; next-written = λ _ w. low .1 w; empty-zero = λ e. clash e refl }) in
       record { form = o .0; shape = o .1 })
-    where
-      held-low : ite (tooHigh p (wAt (p .w) k + 2)) true (holdAt (p .held) k .full) ≡ false → tooHigh p (wAt (p .w) k + 2) ≡ false
-      held-low h = by (tooHigh p (wAt (p .w) k + 2)) refl
-        where
-          by : (c : Bool) → tooHigh p (wAt (p .w) k + 2) ≡ c → c ≡ false
-          by true e = clash h (ite-true _ _ e)
-          by false e = refl
 
   rule-kept : (room : ℕ) (e : Event) → refusal p room e ≡ 0 → Good (rule p e .panel)
   unfolding refusal trials rule

@@ -12,7 +12,7 @@ use lib.Dec.{leb, ltb}
 use lib.ListN.{length, getD, set}
 use borrow.Author.Tests.{le-leb, lt-ltb, leb-true, leb-false}
 use Rattle.basics.specs.Choice.{ite, both}
-use Rattle.basics.proofs.Choices.{ite-true, ite-false, ite-case, both-true, both-left, both-right}
+use Rattle.basics.proofs.Choices.{clash, ite-true, ite-false, ite-case, both-true, both-left, both-right}
 use Rattle.tables.specs.declared.Hold.{Hold}
 use Rattle.tables.specs.declared.Line.{Line}
 use Rattle.tables.specs.declared.ReadNo.{ReadNo}
@@ -31,7 +31,7 @@ use Rattle.panel.specs.Events.{lineFull, rightBit, tooHigh, stray}
 use Rattle.panel.proofs.Stores.{r-set, r-set-ne, hold-set, hold-set-ne, line-set, line-set-ne}
 use Rattle.panel.proofs.InForm.{InForm, PlaceForm, PlaceOf}
 use Rattle.panel.proofs.Shape.{Shaped, length-kept, lines-kept}
-use Rattle.panel.proofs.Places.{clash, place-raised, place-own, place-peer}
+use Rattle.panel.proofs.Places.{place-raised, place-own, place-peer}
 
 -- an operation in form stays so while the panel's own numbers grow
 pub operation-raised : (o : Operation) (lead : Bool) (x y x′ y′ : ℕ) → operationOk o lead x y ≡ true → x ≤ x′ → y ≤ y′ → operationOk o lead x′ y′ ≡ true

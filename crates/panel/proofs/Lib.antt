@@ -12,3 +12,4 @@ pub mod Kept
 pub mod InForming
 pub mod Looking
 pub mod Refusing
+pub mod Running

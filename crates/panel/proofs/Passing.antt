@@ -10,7 +10,7 @@ use lib.Dec.{leb, ltb, eqb, lit<}
 use borrow.Author.Tests.{ltb-false, leb-true, leb-false, eqb-false, eq-eqb, not-true, not-false}
 use Rattle.basics.specs.Choice.{ite, both}
 use Rattle.basics.specs.Refusal.{Trial, firstOf}
-use Rattle.basics.proofs.Choices.{both-left, both-right}
+use Rattle.basics.proofs.Choices.{clash, ite-true, ite-false, both-left, both-right, both-true}
 use Rattle.basics.proofs.Refusals.{Passes, passed}
 use Rattle.tables.specs.Places.{wAt, rAt, holdAt, lineAt}
 use Rattle.panel.specs.declared.Panel.{Panel}
@@ -97,3 +97,40 @@ module _ (p : Panel) (room j : ℕ) where
   may-proceed-from e =
       let h : MayCome p room j × (eqb (rAt (p .r) (j - 1)) (ownR p) ≡ false) = may-come 12 (eqb (rAt (p .r) (j - 1)) (ownR p)) (lit< tt) e in
       (h .0, eqb-false _ _ (h .1))
+
+-- ---- a WRITE that is not stray
+
+-- a number that is not too high
+low-number : (p : Panel) (x : ℕ) → tooHigh p x ≡ false → (x ≤ 200) × (atWriter p ≡ true → x ≤ ownW p)
+unfolding tooHigh
+low-number p x h = (ltb-false 200 x first, λ w. ltb-false (ownW p) x (second w))
+  where
+    first : ltb 200 x ≡ false
+    first = by (ltb 200 x) refl
+      where
+        by : (b : Bool) → ltb 200 x ≡ b → b ≡ false
+        by true e = clash h (ite-true _ _ e)
+        by false e = refl
+
+    second : atWriter p ≡ true → ltb (ownW p) x ≡ false
+    second w = by (ltb (ownW p) x) refl
+      where
+        by : (b : Bool) → ltb (ownW p) x ≡ b → b ≡ false
+        by true e = clash h (ite-false _ _ first ∙ both-true w e)
+        by false e = refl
+
+module _ (p : Panel) (k : ℕ) (b : Bool) (s : stray p k b ≡ false) where
+  pub low-right : rightBit p k b ≡ true → (wAt (p .w) k + 1 ≤ 200) × (atWriter p ≡ true → wAt (p .w) k + 1 ≤ ownW p)
+  unfolding stray
+  low-right r = low-number p (wAt (p .w) k + 1) (sym (ite-true _ _ r) ∙ s)
+
+  not-too-high : rightBit p k b ≡ false → tooHigh p (wAt (p .w) k + 2) ≡ false
+  unfolding stray
+  not-too-high r = by (tooHigh p (wAt (p .w) k + 2)) refl
+    where
+      by : (c : Bool) → tooHigh p (wAt (p .w) k + 2) ≡ c → c ≡ false
+      by true e = clash (sym (ite-false _ _ r) ∙ s) (ite-true _ _ e)
+      by false e = refl
+
+  pub low-held : rightBit p k b ≡ false → (wAt (p .w) k + 2 ≤ 200) × (atWriter p ≡ true → wAt (p .w) k + 2 ≤ ownW p)
+  low-held r = low-number p (wAt (p .w) k + 2) (not-too-high r)

@@ -5,19 +5,13 @@ use mathlib.Core.Bool.{Bool, true, false}
 use Prim.Native.Nat.{ℕ, _+_, _≤_, _<_}
 use native.Mathlib.Nat.{not-suc-le-zero}
 use native.Mathlib.Omega.{arith}
+use Rattle.basics.proofs.Choices.{clash}
 use Rattle.tables.specs.declared.Hold.{Hold}
 use Rattle.tables.specs.declared.Line.{Line}
 use Rattle.tables.specs.Places.{noHold}
 use Rattle.tables.proofs.Form.{LineForm, HoldForm}
 use Rattle.tables.proofs.Lines.{raised-form}
 use Rattle.panel.proofs.InForm.{PlaceForm}
-
-pub clash : {A : Type 0} {b : Bool} → b ≡ false → b ≡ true → A
-clash {A} {b} f t = absurd (subst (λ (c : Bool). tell c) (sym f ∙ t) tt)
-  where
-    tell : Bool → Type 0
-    tell true = ⊥
-    tell false = Unit {0}
 
 pub hold-raised : (h : Hold) (low high high′ : ℕ) (lead : Bool) → HoldForm h low high lead → high ≤ high′ → HoldForm h low high′ lead
 hold-raised h low high high′ lead f g =

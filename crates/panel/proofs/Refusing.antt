@@ -1,6 +1,6 @@
 -- The ways out of the refusals, for their code: each number where its test is the first that comes out true.
 -- Assumes nothing.
-use mathlib.Core.Path.{_≡_, refl, sym, ap, _∙_}
+use mathlib.Core.Path.{_≡_, refl, sym, ap, ap₂, _∙_}
 use mathlib.Core.Bool.{Bool, true, false, not}
 use mathlib.Core.List.{List, [], _∷_, _++_}
 use mathlib.Core.Logic.{_≢_}
@@ -8,9 +8,10 @@ use Prim.Native.Nat.{ℕ, _+_, _-_, _≤_, _<_}
 use native.Mathlib.Omega.{arith}
 use lib.Dec.{leb, ltb, eqb, lit<}
 use borrow.Author.Tests.{lt-ltb, le-ltb, le-leb, lt-leb, eq-eqb, ne-eqb, not-false}
+use Rattle.basics.specs.Choice.{both}
 use Rattle.basics.specs.Refusal.{Trial, firstOf}
 use Rattle.basics.proofs.Refusals.{Numbered, passed, first-given, first-not, first-past, first-stops, first-none}
-use Rattle.tables.specs.Places.{wAt, rAt}
+use Rattle.tables.specs.Places.{wAt, rAt, lineAt}
 use Rattle.panel.specs.declared.Panel.{Panel}
 use Rattle.panel.specs.Setting.{ownW, ownR}
 use Rattle.panel.specs.Form.{inForm, atWriter}
@@ -124,3 +125,40 @@ module _ (p : Panel) (room : ℕ) where
         let most : p .n ≤ 7 = f .sizes .n-high in
         let high : j ≤ p .n = m .high in
         (m .low, omega arith, sized p f)
+
+-- ---- 11, 12 and 13; i and m are the panel's own number and the peer's as the code holds them
+
+module _ (p : Panel) (room j i m : ℕ) (own : i ≡ p .number) (peer : m ≡ j) (e : firstOf (peerTrials p room j) ≡ 0) where
+  pub proceed-given : rAt (p .r) (m - 1) ≡ rAt (p .r) (i - 1) → 12 ≡ firstOf (proceedFromTrials p room j)
+  unfolding proceedFromTrials
+  proceed-given h = more-given p room j 12 _ e (eq-eqb _ _ (ap (λ (x : ℕ). rAt (p .r) (x - 1)) (sym peer) ∙ h ∙ ap (λ (x : ℕ). rAt (p .r) (x - 1)) own))
+
+  pub proceed-0 : rAt (p .r) (m - 1) ≢ rAt (p .r) (i - 1) → 0 ≡ firstOf (proceedFromTrials p room j)
+  unfolding proceedFromTrials
+  proceed-0 h =
+      more-0 p room j 12 _ e
+      (ne-eqb _ _ (λ (s : rAt (p .r) (j - 1) ≡ ownR p). h (ap (λ (x : ℕ). rAt (p .r) (x - 1)) peer ∙ s ∙ ap (λ (x : ℕ). rAt (p .r) (x - 1)) (sym own))))
+
+  full : Bool
+  full = both (ltb (wAt (p .w) (m - 1)) (wAt (p .w) (i - 1))) (leb 100 (lineAt (p .lines) (m - 1) .len))
+
+  full-is : full ≡ lineFull p (j - 1)
+  unfolding full lineFull
+  full-is = ap₂ (λ (x y : ℕ). both (ltb (wAt (p .w) (x - 1)) (wAt (p .w) (y - 1))) (leb 100 (lineAt (p .lines) (x - 1) .len))) peer own
+
+  pub read-from-given : both (ltb (wAt (p .w) (m - 1)) (wAt (p .w) (i - 1))) (leb 100 (lineAt (p .lines) (m - 1) .len)) ≡ true → 13 ≡ firstOf (readFromTrials p room j)
+  unfolding readFromTrials full
+  read-from-given h = more-given p room j 13 _ e (sym full-is ∙ h)
+
+  pub read-from-0 : both (ltb (wAt (p .w) (m - 1)) (wAt (p .w) (i - 1))) (leb 100 (lineAt (p .lines) (m - 1) .len)) ≡ false → 0 ≡ firstOf (readFromTrials p room j)
+  unfolding readFromTrials full
+  read-from-0 h = more-0 p room j 13 _ e (sym full-is ∙ h)
+
+module _ (p : Panel) (room j m : ℕ) (b : Bool) (peer : m ≡ j) (e : firstOf (peerTrials p room j) ≡ 0) where
+  pub write-from-given : stray p (m - 1) b ≡ true → 11 ≡ firstOf (writeFromTrials p room j b)
+  unfolding writeFromTrials
+  write-from-given h = more-given p room j 11 _ e (ap (λ (x : ℕ). stray p (x - 1) b) (sym peer) ∙ h)
+
+  pub write-from-0 : stray p (m - 1) b ≡ false → 0 ≡ firstOf (writeFromTrials p room j b)
+  unfolding writeFromTrials
+  write-from-0 h = more-0 p room j 11 _ e (ap (λ (x : ℕ). stray p (x - 1) b) (sym peer) ∙ h)

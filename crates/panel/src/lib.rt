@@ -6,6 +6,7 @@ ghost use mathlib.Core.Path.{_≡_};
 
 mod form;
 mod look;
+mod refusals;
 
 use messages::Cast;
 use messages::Sends;
