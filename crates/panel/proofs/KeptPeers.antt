@@ -29,6 +29,7 @@ use Rattle.panel.specs.Form.{inForm, atWriter, operationOk}
 use Rattle.panel.specs.Rules.{readFromRule, proceedRule, holdRule}
 use Rattle.panel.specs.Events.{lineFull, rightBit, tooHigh, stray}
 use Rattle.panel.proofs.Stores.{r-set, r-set-ne, hold-set, hold-set-ne, line-set, line-set-ne}
+use Rattle.panel.proofs.Passing.{line-room}
 use Rattle.panel.proofs.InForm.{InForm, PlaceForm, PlaceOf}
 use Rattle.panel.proofs.Shape.{Shaped, length-kept, lines-kept}
 use Rattle.panel.proofs.Places.{place-raised, place-own, place-peer}
@@ -174,21 +175,14 @@ module _ (p : Panel) (s : Shaped p) (f : InForm p) (k : ℕ) (at : PeerPlace p k
   -- ---- READ
 
   pub kept-read-from : lineFull p k ≡ false → InForm (readFromRule p k .panel) × Shaped (readFromRule p k .panel)
-  unfolding readFromRule lineFull
+  unfolding readFromRule
   kept-read-from full =
       ite-case (λ (q : Ruled). InForm (q .panel) × Shaped (q .panel)) (leb (ownW p) (wAt (p .w) k)) _ _
       (λ _. (f, s))
       (λ e. let behind : wAt (p .w) k < ownW p = leb-false _ _ e in
       kept-line (joined (lineAt (p .lines) k) (record { 0 = ownW p }))
-      (joined-form (lineAt (p .lines) k) (wAt (p .w) k) (ownW p) (ownW p) (f .place k (at .seven) .line) (room behind) behind refl (s .lines-long .hundred k (at .seven)))
+      (joined-form (lineAt (p .lines) k) (wAt (p .w) k) (ownW p) (ownW p) (f .place k (at .seven) .line) (line-room p k full behind) behind refl (s .lines-long .hundred k (at .seven)))
       (length-joined (lineAt (p .lines) k) _ ∙ s .lines-long .hundred k (at .seven)))
-    where
-      room : wAt (p .w) k < ownW p → lineAt (p .lines) k .len < 100
-      room b = by (leb 100 (lineAt (p .lines) k .len)) refl
-        where
-          by : (c : Bool) → leb 100 (lineAt (p .lines) k .len) ≡ c → lineAt (p .lines) k .len < 100
-          by true e = clash full (both-true (lt-ltb _ _ b) e)
-          by false e = leb-false _ _ e
 
   -- ---- a WRITE that is only held
 

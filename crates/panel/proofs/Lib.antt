@@ -13,3 +13,5 @@ pub mod InForming
 pub mod Looking
 pub mod Refusing
 pub mod Running
+pub mod Happening
+pub mod Coming

@@ -7,7 +7,7 @@ use mathlib.Core.Logic.{_≢_}
 use Prim.Native.Nat.{ℕ, _+_, _-_, _≤_, _<_}
 use native.Mathlib.Omega.{arith}
 use lib.Dec.{leb, ltb, eqb, lit<}
-use borrow.Author.Tests.{ltb-false, leb-true, leb-false, eqb-false, eq-eqb, not-true, not-false}
+use borrow.Author.Tests.{lt-ltb, ltb-false, leb-true, leb-false, eqb-false, eq-eqb, not-true, not-false}
 use Rattle.basics.specs.Choice.{ite, both}
 use Rattle.basics.specs.Refusal.{Trial, firstOf}
 use Rattle.basics.proofs.Choices.{clash, ite-true, ite-false, both-left, both-right, both-true}
@@ -134,3 +134,13 @@ module _ (p : Panel) (k : ℕ) (b : Bool) (s : stray p k b ≡ false) where
 
   pub low-held : rightBit p k b ≡ false → (wAt (p .w) k + 2 ≤ 200) × (atWriter p ≡ true → wAt (p .w) k + 2 ≤ ownW p)
   low-held r = low-number p (wAt (p .w) k + 2) (not-too-high r)
+
+-- ---- a READ that must wait finds room
+
+pub line-room : (p : Panel) (k : ℕ) → lineFull p k ≡ false → wAt (p .w) k < ownW p → lineAt (p .lines) k .len < 100
+unfolding lineFull
+line-room p k full b = by (leb 100 (lineAt (p .lines) k .len)) refl
+  where
+    by : (c : Bool) → leb 100 (lineAt (p .lines) k .len) ≡ c → lineAt (p .lines) k .len < 100
+    by true e = clash full (both-true (lt-ltb _ _ b) e)
+    by false e = leb-false _ _ e

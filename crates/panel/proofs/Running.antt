@@ -38,9 +38,11 @@ w-set-most ws k j n x a b = at (ℕ-discrete j k)
     there : Dec (k < length ws) → wAt (set ws k x) k ≤ n ⊎ (set ws k x ≡ ws)
     there (yes h) = inl (subst (λ (m : ℕ). m ≤ n) (sym (w-set ws k x h)) b)
     there (no h) = inr (set-out ws k x (omega arith))
+
     pick : j ≡ k → wAt (set ws k x) k ≤ n ⊎ (set ws k x ≡ ws) → wAt (set ws k x) j ≤ n
     pick e (inl h) = subst (λ (i : ℕ). wAt (set ws k x) i ≤ n) (sym e) h
     pick e (inr h) = subst (λ (l : List WriteNo). wAt l j ≤ n) (sym h) a
+
     at : Dec (j ≡ k) → wAt (set ws k x) j ≤ n
     at (yes e) = pick e (there (decLt k (length ws)))
     at (no e) = subst (λ (m : ℕ). m ≤ n) (sym (w-set-ne ws k j x e)) a
@@ -64,7 +66,7 @@ module _ (p : Panel) (f : InForm p) where
       record {
         sized = record { low = sized p f .low; high = sized p f .high };
         own-top = w-set-most (p .w) (ownPlace p) (ownPlace p) 200 (record { 0 = ownW p + 1 }) (f .w-top) (omega arith);
-        sn-top = omega arith
+        sn-top = omega arith;
       }
 
   pub looks-read : Looks (readRule p .panel)
@@ -138,11 +140,11 @@ module _ (p : Panel) (k v : ℕ) (t : Takes p k) where
         let below : wAt (p .w) k ≤ ownW p = t .below in
         take-w (λ (ws : List WriteNo). wAt ws k ≤ wAt ws (ownPlace p))
         (λ e. let at-peer = w-set (set (p .w) (ownPlace p) y+) k y+ (omega (arith, length-kept (p .w) (ownPlace p) y+ long, t .place)) in
-          let at-own = w-set-ne (set (p .w) (ownPlace p) y+) k (ownPlace p) y+ (λ s. other (sym s)) ∙ w-set (p .w) (ownPlace p) y+ (omega (arith, long, t .sized .low, t .sized .high)) in
-          omega (arith, at-peer, at-own))
+        let at-own = w-set-ne (set (p .w) (ownPlace p) y+) k (ownPlace p) y+ (λ s. other (sym s)) ∙ w-set (p .w) (ownPlace p) y+ (omega (arith, long, t .sized .low, t .sized .high)) in
+        omega (arith, at-peer, at-own))
         (λ n. let at-peer = w-set (p .w) k x+ (omega (arith, long, t .place)) in
-          let at-own = w-set-ne (p .w) k (ownPlace p) x+ (λ s. other (sym s)) in
-          omega (arith, at-peer, at-own, n))
+        let at-own = w-set-ne (p .w) k (ownPlace p) x+ (λ s. other (sym s)) in
+        omega (arith, at-peer, at-own, n))
 
     pub take-then-held : (holdAt (p .held) k .full ≡ true → wAt (p .w) k + 2 ≤ 200) → TakesHeld (take p k v .panel) k
     take-then-held room =
@@ -151,7 +153,7 @@ module _ (p : Panel) (k v : ℕ) (t : Takes p k) where
           place = t .place;
           own-top = take-own-top;
           next = λ e. let two : wAt (p .w) k + 2 ≤ 200 = room (sym (take-keeps (λ (q : Panel). holdAt (q .held) k .full) p k v (λ ws h. refl)) ∙ e) in omega (arith, take-peer);
-          below = subst (λ (i : ℕ). wAt (take p k v .panel .w) k ≤ wAt (take p k v .panel .w) (i - 1)) (sym (take-keeps (λ (q : Panel). q .number) p k v (λ ws h. refl))) take-below
+          below = subst (λ (i : ℕ). wAt (take p k v .panel .w) k ≤ wAt (take p k v .panel .w) (i - 1)) (sym (take-keeps (λ (q : Panel). q .number) p k v (λ ws h. refl))) take-below;
         }
 
 -- ---- the held WRITE, and the whole rule
@@ -184,5 +186,5 @@ looks-take p k v f t long other room =
     record {
       sized = record { low = omega (arith, number, sized p f .low); high = omega (arith, number, sized p f .high) };
       own-top = held-top q k h;
-      sn-top = subst (λ (o : Operation). snOf o ≤ 200) (sym operation) (looks-form p f .sn-top)
+      sn-top = subst (λ (o : Operation). snOf o ≤ 200) (sym operation) (looks-form p f .sn-top);
     }

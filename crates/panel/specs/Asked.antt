@@ -7,7 +7,7 @@ use Rattle.tables.specs.Places.{wAt, holdAt}
 use Rattle.panel.specs.declared.Operation.{Operation}
 use Rattle.panel.specs.declared.Operation.the-variants.{Idle, Writing, FirstWait, SecondWait}
 use Rattle.panel.specs.declared.Panel.{Panel}
-use Rattle.panel.specs.Setting.{ownW}
+use Rattle.panel.specs.Setting.{ownPlace, ownW}
 
 -- the panel's own number is a place of its tables
 pub record Sized (p : Panel) : Type 0 where
@@ -42,3 +42,9 @@ pub record Looks (p : Panel) : Type 0 where
   pub sized : Sized p
   pub own-top : ownW p ≤ 200
   pub sn-top : snOf (p .operation) ≤ 200
+
+-- a WRITE of the peer at place k can be taken, and the held one behind it
+pub record TakesAll (p : Panel) (k : ℕ) : Type 0 where
+  pub takes : Takes p k
+  pub other : k ≡ ownPlace p → ⊥
+  pub held : holdAt (p .held) k .full ≡ true → wAt (p .w) k + 2 ≤ 200

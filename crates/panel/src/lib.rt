@@ -7,6 +7,9 @@ ghost use mathlib.Core.Path.{_≡_};
 mod form;
 mod look;
 mod refusals;
+mod rules;
+mod take;
+mod telling;
 
 use messages::Cast;
 use messages::Sends;

@@ -6,9 +6,13 @@ ghost use Rattle.panel.specs.Events.{isPeer, isIdle, rightBit, tooHigh, 
 ghost use Rattle.basics.specs.Below.{oneIf};
 ghost use Rattle.basics.specs.Refusal.{firstOf};
 ghost use Rattle.panel.specs.Asked.{Sized};
-
-use crate::{Answer, Done, Operation, Panel};
-use tables::{both, choose, wide};
+use crate::Answer;
+use crate::Done;
+use crate::Operation;
+use crate::Panel;
+use tables::both;
+use tables::choose;
+use tables::wide;
 
 pub(crate) fn refused_by(p: Panel, k: u8) -> Done
     ensures { λ d. ⌜ d ≡ refusedBy p k ⌝ }
@@ -141,7 +145,11 @@ pub(crate) fn refused_read_from(p: Panel, room: usize, j: u8) -> u8
     let i = wide(p.number) - 1;
     let k = wide(j) - 1;
     let l = p.lines[k];
-    if both(p.w[k].0 < p.w[i].0, 100 <= l.len) { 13 } else { 0 }
+    if both(p.w[k].0 < p.w[i].0, 100 <= l.len) {
+        13
+    } else {
+        0
+    }
 }
 
 pub(crate) fn refused_proceed_from(p: Panel, room: usize, j: u8) -> u8

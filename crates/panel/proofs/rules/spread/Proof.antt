@@ -1,0 +1,58 @@
+use mathlib.Core.Path.{sym, subst}
+use Prim.Native.Nat.{ℕ, _-_, _<_}
+use native.Mathlib.Omega.{arith}
+use Rattle.tables.specs.Places.{wAt}
+use Rattle.panel.specs.Rules.{learned, spread}
+use borrow.Author.Needs.{needs}
+use Rattle.panel.proofs.rules.spread.Statement.{statement}
+use Rattle.panel.proofs.rules.spread.Tie as tie
+use Rattle.panel.proofs.rules.spread.Reads as reads
+use Rattle.panel.proofs.rules.spread.Lts as lts
+use Rattle.tables.proofs.has_w.Reads as has-w-reads
+use Rattle.tables.proofs.wide.Reads as wide-reads
+
+-- src/rules.rt:60:13
+wide-requires : tie.Need-wide-requires
+wide-requires c κs = search needs
+
+-- src/rules.rt:60:13
+sub-i : tie.Need-sub-i
+sub-i c = search needs
+
+-- src/rules.rt:61:9
+element-copy-out-y : tie.Need-element-copy-out-y
+element-copy-out-y c = search needs
+
+-- src/rules.rt:63:21
+add-has-w : tie.Need-add-has-w
+add-has-w c = omega (arith, subst (λ (i : ℕ). wAt (c .before .before .args .t1 .w) (i - 1) < 200) (sym (c .before .wide .ensures .0)) (c .before .before .pre .1))
+
+-- src/rules.rt:63:5
+array-set-from-ws : tie.Need-array-set-from-ws
+array-set-from-ws c = search needs
+
+-- src/rules.rt:65:13
+has-w-requires : tie.Need-has-w-requires
+has-w-requires c κs = search needs
+
+-- src/rules.rt:66:16
+add-t16 : tie.Need-add-t16
+add-t16 c = omega (arith, subst (λ (i : ℕ). wAt (c .before .before .before .args .t1 .w) (i - 1) < 200) (sym (c .before .before .wide .ensures .0)) (c .before .before .before .pre .1))
+
+-- src/rules.rt:56:1
+returns : tie.Need-returns
+unfolding spread learned
+returns c = simp (c .has-w .ensures, c .before .before .wide .ensures .0)
+
+pub spread-spec : {M : Type 1} → statement M
+spread-spec =
+    tie.close
+    (tie.spec
+    wide-requires
+    sub-i
+    element-copy-out-y
+    add-has-w
+    array-set-from-ws
+    has-w-requires
+    add-t16
+    returns)
