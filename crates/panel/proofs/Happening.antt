@@ -11,7 +11,7 @@ use borrow.Author.Tests.{eq-eqb, ne-eqb, le-leb, lt-leb, lt-ltb, le-ltb}
 use Rattle.basics.specs.Choice.{ite}
 use Rattle.basics.proofs.Choices.{ite-true, ite-false}
 use Rattle.messages.specs.Sends.{noCast}
-use Rattle.messages.specs.Area.{Area, Laid, laying}
+use Rattle.messages.specs.Area.{Area, Laid, laying, roomOf}
 use Rattle.tables.specs.declared.Line.{Line}
 use Rattle.tables.specs.Places.{wAt, rAt, holdAt, lineAt, noWrite, noHold}
 use Rattle.tables.specs.Marks.{onlyPlace}
@@ -19,7 +19,7 @@ use Rattle.tables.specs.Lines.{joined}
 use Rattle.panel.specs.declared.Panel.{Panel}
 use Rattle.panel.specs.declared.Ruled.{Ruled}
 use Rattle.panel.specs.declared.Done.{Done}
-use Rattle.panel.specs.Calls.{Called, told}
+use Rattle.panel.specs.Calls.{Called, told, called}
 use Rattle.panel.specs.Setting.{ownPlace, ownW, ownR, setHeld, setLines}
 use Rattle.panel.specs.Rules.{learned, spread, reached, take, takeHeld, valueOf, readFromRule, sendsProceeds}
 use Rattle.panel.specs.Asked.{Sized, Takes}
@@ -144,3 +144,8 @@ pub told-as :
     record { outcome = record { panel = d .panel; answer = d .answer; count = laid .count }; area = laid .area } ≡ told d a
 unfolding told laying
 told-as d a laid e = ap (λ (l : Laid). record { outcome = record { panel = d .panel; answer = d .answer; count = l .count }; area = l .area }) e
+
+pub called-as :
+    (p : Panel) (e : Event) (a : Area) (room : ℕ) (d : Done) (c : Called) → room ≡ roomOf a → d ≡ happens p room e → c ≡ told d a → c ≡ called p e a
+unfolding called
+called-as p e a room d c r h t = t ∙ ap (λ (x : Done). told x a) (h ∙ ap (λ (n : ℕ). happens p n e) r)

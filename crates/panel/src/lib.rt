@@ -3,6 +3,11 @@
 // `write`, `read`, `write_from`, `read_from` and `proceed_from` lay what they send into a lent message area, three slices.
 // `after_write` and the like take no area, and hand what is sent back as it is.
 ghost use mathlib.Core.Path.{_≡_};
+ghost use Rattle.messages.specs.Area.{Area};
+ghost use Rattle.panel.specs.Form.{inForm};
+ghost use Rattle.panel.specs.Events.{happens};
+ghost use Rattle.panel.specs.Events.Event.{write, read, writeFrom, readFrom, proceedFrom};
+ghost use Rattle.panel.specs.Calls.{Called, called, made};
 
 mod form;
 mod look;
@@ -84,4 +89,133 @@ pub struct Outcome {
 pub struct Made {
     pub refusal: u8,
     pub panel: Panel,
+}
+
+impl Panel {
+    pub fn set_up(n: u8, t: u8, writer: u8, number: u8, initial: u32) -> Made
+        ensures { λ m. ⌜ m ≡ made n t writer number initial ⌝ }
+    {
+        if !form::fits(n, t, writer) {
+            return form::not_made(1);
+        }
+        if !form::is_panel(n, number) {
+            return form::not_made(4);
+        }
+        Made {
+            refusal: 0,
+            panel: form::fresh(n, t, writer, number, initial),
+        }
+    }
+
+    pub fn in_form(self) -> bool
+        ensures { λ r. ⌜ r ≡ inForm self ⌝ }
+    {
+        form::in_form(self)
+    }
+
+    pub fn after_write(self, v: u32) -> Done
+        ensures { λ d. ⌜ d ≡ happens self 107 (write v) ⌝ }
+    {
+        rules::write_done(self, 107, v)
+    }
+
+    pub fn after_read(self) -> Done
+        ensures { λ d. ⌜ d ≡ happens self 107 read ⌝ }
+    {
+        rules::read_done(self, 107)
+    }
+
+    pub fn after_write_from(self, j: u8, bit: bool, v: u32) -> Done
+        ensures { λ d. ⌜ d ≡ happens self 107 (writeFrom j bit v) ⌝ }
+    {
+        take::write_from_done(self, 107, j, bit, v)
+    }
+
+    pub fn after_read_from(self, j: u8) -> Done
+        ensures { λ d. ⌜ d ≡ happens self 107 (readFrom j) ⌝ }
+    {
+        rules::read_from_done(self, 107, j)
+    }
+
+    pub fn after_proceed_from(self, j: u8) -> Done
+        ensures { λ d. ⌜ d ≡ happens self 107 (proceedFrom j) ⌝ }
+    {
+        rules::proceed_from_done(self, 107, j)
+    }
+
+    pub fn write(
+        self,
+        v: u32,
+        receivers: &mut [u8],
+        kinds: &mut [u8],
+        values: &mut [u32],
+    ) -> Outcome
+        ensures { λ o. ⌜ record { outcome = o; area = record { receivers = now (receivers .exit); kinds = now (kinds .exit); values = now (values .exit) } } ≡ called self (write v) (record { receivers = now (receivers .entry); kinds = now (kinds .entry); values = now (values .entry) }) ⌝ }
+    {
+        let room = messages::room_of(receivers, kinds, values);
+        telling::tell(rules::write_done(self, room, v), receivers, kinds, values)
+    }
+
+    pub fn read(self, receivers: &mut [u8], kinds: &mut [u8], values: &mut [u32]) -> Outcome
+        ensures { λ o. ⌜ record { outcome = o; area = record { receivers = now (receivers .exit); kinds = now (kinds .exit); values = now (values .exit) } } ≡ called self read (record { receivers = now (receivers .entry); kinds = now (kinds .entry); values = now (values .entry) }) ⌝ }
+    {
+        let room = messages::room_of(receivers, kinds, values);
+        telling::tell(rules::read_done(self, room), receivers, kinds, values)
+    }
+
+    pub fn write_from(
+        self,
+        j: u8,
+        bit: bool,
+        v: u32,
+        receivers: &mut [u8],
+        kinds: &mut [u8],
+        values: &mut [u32],
+    ) -> Outcome
+        ensures { λ o. ⌜ record { outcome = o; area = record { receivers = now (receivers .exit); kinds = now (kinds .exit); values = now (values .exit) } } ≡ called self (writeFrom j bit v) (record { receivers = now (receivers .entry); kinds = now (kinds .entry); values = now (values .entry) }) ⌝ }
+    {
+        let room = messages::room_of(receivers, kinds, values);
+        telling::tell(
+            take::write_from_done(self, room, j, bit, v),
+            receivers,
+            kinds,
+            values,
+        )
+    }
+
+    pub fn read_from(
+        self,
+        j: u8,
+        receivers: &mut [u8],
+        kinds: &mut [u8],
+        values: &mut [u32],
+    ) -> Outcome
+        ensures { λ o. ⌜ record { outcome = o; area = record { receivers = now (receivers .exit); kinds = now (kinds .exit); values = now (values .exit) } } ≡ called self (readFrom j) (record { receivers = now (receivers .entry); kinds = now (kinds .entry); values = now (values .entry) }) ⌝ }
+    {
+        let room = messages::room_of(receivers, kinds, values);
+        telling::tell(
+            rules::read_from_done(self, room, j),
+            receivers,
+            kinds,
+            values,
+        )
+    }
+
+    pub fn proceed_from(
+        self,
+        j: u8,
+        receivers: &mut [u8],
+        kinds: &mut [u8],
+        values: &mut [u32],
+    ) -> Outcome
+        ensures { λ o. ⌜ record { outcome = o; area = record { receivers = now (receivers .exit); kinds = now (kinds .exit); values = now (values .exit) } } ≡ called self (proceedFrom j) (record { receivers = now (receivers .entry); kinds = now (kinds .entry); values = now (values .entry) }) ⌝ }
+    {
+        let room = messages::room_of(receivers, kinds, values);
+        telling::tell(
+            rules::proceed_from_done(self, room, j),
+            receivers,
+            kinds,
+            values,
+        )
+    }
 }

@@ -1,12 +1,9 @@
-use borrow.Author.Needs.{needs}
-use Rattle.panel.specs.Form.{emptyLine}
+-- `panel::form::empty_line` meets its contract. Assumes nothing.
 use mathlib.Core.Path.{refl}
 use Rattle.panel.proofs.form.empty_line.Statement.{statement}
 use Rattle.panel.proofs.form.empty_line.Tie as tie
-use Rattle.panel.proofs.form.empty_line.Reads as reads
-use Rattle.panel.proofs.form.empty_line.Lts as lts
+use Rattle.panel.specs.Form.{emptyLine}
 
--- src/form.rt:108:1
 returns : tie.Need-returns
 unfolding emptyLine
 returns c = refl

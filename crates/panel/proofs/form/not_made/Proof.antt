@@ -1,16 +1,12 @@
-use Rattle.panel.specs.Form.{nothing}
+-- `panel::form::not_made` meets its contract. Assumes nothing.
 use borrow.Author.Needs.{needs}
 use Rattle.panel.proofs.form.not_made.Statement.{statement}
 use Rattle.panel.proofs.form.not_made.Tie as tie
-use Rattle.panel.proofs.form.not_made.Reads as reads
-use Rattle.panel.proofs.form.not_made.Lts as lts
-use Rattle.panel.proofs.form.fresh.Reads as fresh-reads
+use Rattle.panel.specs.Form.{nothing}
 
--- src/form.rt:145:16
 fresh-requires : tie.Need-fresh-requires
 fresh-requires c κs = search needs
 
--- src/form.rt:140:1
 returns : tie.Need-returns
 unfolding nothing
 returns c = simp (c .fresh .ensures)

@@ -1,17 +1,13 @@
-use borrow.Author.Needs.{needs}
-use Rattle.basics.specs.Below.{allBelow}
-use Rattle.basics.proofs.Below.{all-next}
-use Rattle.panel.specs.Form.{placeOk}
-use Rattle.panel.specs.Asked.{Sized}
+-- `panel::form::places_ok` meets its contract. Assumes nothing.
 use Prim.Native.Nat.{_≤_, _-_}
+use borrow.Author.Needs.{needs}
+use mathlib.Core.Path.{_≡_, refl}
 use native.Mathlib.Omega.{arith}
-use mathlib.Core.Path.{_≡_, refl, sym, ap, _∙_}
+use Rattle.basics.proofs.Below.{all-next}
+use Rattle.basics.specs.Below.{allBelow}
 use Rattle.panel.proofs.form.places_ok.Statement.{statement}
 use Rattle.panel.proofs.form.places_ok.Tie as tie
-use Rattle.panel.proofs.form.places_ok.Reads as reads
-use Rattle.panel.proofs.form.places_ok.Lts as lts
-use Rattle.panel.proofs.form.place_ok.Reads as place-ok-reads
-use Rattle.tables.proofs.both.Reads as both-reads
+use Rattle.panel.specs.Form.{placeOk}
 
 abbrev Inv-loop : tie.InvT-loop
 Inv-loop p ok₀ j₀ ok j = (j ≤ 7) × (ok ≡ allBelow j (placeOk p))
@@ -19,32 +15,25 @@ Inv-loop p ok₀ j₀ ok j = (j ≤ 7) × (ok ≡ allBelow j (placeOk p))
 abbrev μ-loop : tie.MeasureT-loop
 μ-loop p ok₀ j₀ ok j = 7 - j
 
--- src/form.rt:69:5
 loop-holds : tie.Need-loop-holds Inv-loop μ-loop
 unfolding allBelow
 loop-holds c = (omega arith, refl)
 
--- src/form.rt:70:13
 place-ok-requires : tie.Need-place-ok-requires Inv-loop μ-loop
 place-ok-requires c κs = (omega arith, c .before .before .pre)
 
--- src/form.rt:71:9
 both-requires : tie.Need-both-requires Inv-loop μ-loop
 both-requires c κs = search needs
 
--- src/form.rt:72:9
 add-j : tie.Need-add-j Inv-loop μ-loop
 add-j c = search needs
 
--- src/form.rt:69:5
 loop-less : tie.Need-loop-less Inv-loop μ-loop
 loop-less c = search needs
 
--- src/form.rt:69:5
 loop-again : tie.Need-loop-again Inv-loop μ-loop
 loop-again c = (omega arith, simp (all-next, c .both .ensures, c .before .place-ok .ensures, c .before .before .before .loop .inv .1))
 
--- src/form.rt:63:1
 returns : tie.Need-returns Inv-loop μ-loop
 returns c = let e : c .before .loop .j ≡ 7 = omega arith in simp (c .before .loop .inv .1, e)
 

@@ -1,43 +1,31 @@
+-- `panel::look::look_second` meets its contract. Assumes nothing.
+use borrow.Author.Needs.{needs}
 use mathlib.Core.Path.{sym, _∙_}
 use Rattle.basics.proofs.Choices.{ite-true, ite-false}
-use Rattle.panel.specs.Look.{lookSecond}
 use Rattle.panel.proofs.Looking.{enough-told}
-use borrow.Author.Needs.{needs}
 use Rattle.panel.proofs.look.look_second.Statement.{statement}
 use Rattle.panel.proofs.look.look_second.Tie as tie
-use Rattle.panel.proofs.look.look_second.Reads as reads
-use Rattle.panel.proofs.look.look_second.Lts as lts
-use Rattle.panel.proofs.look.value_of.Reads as value-of-reads
-use Rattle.panel.proofs.look.with_operation.Reads as with-operation-reads
-use Rattle.tables.proofs.enough.Reads as enough-reads
-use Rattle.tables.proofs.reaches_w.Reads as reaches-w-reads
+use Rattle.panel.specs.Look.{lookSecond}
 
--- src/look.rt:70:33
 reaches-w-requires : tie.Need-reaches-w-requires
 reaches-w-requires c κs = search needs
 
--- src/look.rt:70:8
 enough-requires : tie.Need-enough-requires
 enough-requires c κs = search needs
 
--- src/look.rt:72:20
 with-operation-requires : tie.Need-with-operation-requires
 with-operation-requires c κs = search needs
 
--- src/look.rt:73:38
 value-of-requires : tie.Need-value-of-requires
 value-of-requires c κs = search needs
 
--- src/look.rt:77:20
 with-operation-requires-2 : tie.Need-with-operation-requires-2
 with-operation-requires-2 c κs = search needs
 
--- src/look.rt:65:1
 returns : tie.Need-returns
 unfolding lookSecond
 returns c = simp (c .before .with-operation .ensures, c .value-of .ensures) (sym (ite-true _ _ (sym (enough-told _ _ _ _ _ (c .before .before .before .before .reaches-w .ensures) (c .before .before .before .enough .ensures)) ∙ c .before .before .if1 .taken)))
 
--- src/look.rt:65:1
 returns-2 : tie.Need-returns-2
 unfolding lookSecond
 returns-2 c = simp (c .with-operation2 .ensures) (sym (ite-false _ _ (sym (enough-told _ _ _ _ _ (c .before .before .before .reaches-w .ensures) (c .before .before .enough .ensures)) ∙ c .before .if1 .left)))

@@ -1,16 +1,12 @@
-use borrow.Author.Needs.{needs}
+-- `panel::refusals::bit_number` meets its contract. Assumes nothing.
 use Rattle.basics.specs.Below.{oneIf}
 use Rattle.panel.proofs.refusals.bit_number.Statement.{statement}
 use Rattle.panel.proofs.refusals.bit_number.Tie as tie
-use Rattle.panel.proofs.refusals.bit_number.Reads as reads
-use Rattle.panel.proofs.refusals.bit_number.Lts as lts
 
--- src/refusals.rt:89:1
 returns : tie.Need-returns
 unfolding oneIf
 returns c = simp (c .if1 .taken)
 
--- src/refusals.rt:89:1
 returns-2 : tie.Need-returns-2
 unfolding oneIf
 returns-2 c = simp (c .if1 .left)

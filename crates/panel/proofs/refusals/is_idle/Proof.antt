@@ -1,42 +1,33 @@
-use Rattle.panel.specs.Events.{isIdle}
+-- `panel::refusals::is_idle` meets its contract. Assumes nothing.
 use borrow.Author.Needs.{needs}
 use Rattle.panel.proofs.refusals.is_idle.Statement.{statement}
 use Rattle.panel.proofs.refusals.is_idle.Tie as tie
-use Rattle.panel.proofs.refusals.is_idle.Reads as reads
-use Rattle.panel.proofs.refusals.is_idle.Lts as lts
+use Rattle.panel.specs.Events.{isIdle}
 
--- src/refusals.rt:26:28
 enum-told : tie.Need-enum-told
 enum-told c = search needs
 
--- src/refusals.rt:27:31
 enum-told-2 : tie.Need-enum-told-2
 enum-told-2 c = search needs
 
--- src/refusals.rt:28:33
 enum-told-3 : tie.Need-enum-told-3
 enum-told-3 c = search needs
 
--- src/refusals.rt:29:37
 enum-told-4 : tie.Need-enum-told-4
 enum-told-4 c = search needs
 
--- src/refusals.rt:22:1
 returns : tie.Need-returns
 unfolding isIdle
 returns c = simp (c .enum-told .given .1)
 
--- src/refusals.rt:22:1
 returns-2 : tie.Need-returns-2
 unfolding isIdle
 returns-2 c = simp (c .enum-told2 .given .1)
 
--- src/refusals.rt:22:1
 returns-3 : tie.Need-returns-3
 unfolding isIdle
 returns-3 c = simp (c .enum-told3 .given .1)
 
--- src/refusals.rt:22:1
 returns-4 : tie.Need-returns-4
 unfolding isIdle
 returns-4 c = simp (c .enum-told4 .given .1)

@@ -1,26 +1,20 @@
-use mathlib.Core.Path.{sym, _∙_}
-use borrow.Author.Tests.{not-true, not-false}
-use Rattle.panel.proofs.Refusing.{first-2, first-3, first-0}
+-- `panel::refusals::refused_first` meets its contract. Assumes nothing.
 use borrow.Author.Needs.{needs}
+use borrow.Author.Tests.{not-true, not-false}
+use mathlib.Core.Path.{sym, _∙_}
+use Rattle.panel.proofs.Refusing.{first-2, first-3, first-0}
 use Rattle.panel.proofs.refusals.refused_first.Statement.{statement}
 use Rattle.panel.proofs.refusals.refused_first.Tie as tie
-use Rattle.panel.proofs.refusals.refused_first.Reads as reads
-use Rattle.panel.proofs.refusals.refused_first.Lts as lts
-use Rattle.panel.proofs.form.in_form.Reads as in-form-reads
 
--- src/refusals.rt:37:9
 in-form-requires : tie.Need-in-form-requires
 in-form-requires c κs = search needs
 
--- src/refusals.rt:38:9
 returns : tie.Need-returns
 returns c = first-2 _ _ (sym (c .before .in-form .ensures) ∙ not-true _ (c .if1 .taken))
 
--- src/refusals.rt:34:1
 returns-2 : tie.Need-returns-2
 returns-2 c = first-3 _ _ (sym (c .before .before .in-form .ensures) ∙ not-false _ (c .before .if1 .left)) (c .if2 .taken)
 
--- src/refusals.rt:34:1
 returns-3 : tie.Need-returns-3
 returns-3 c = first-0 _ _ (sym (c .before .before .in-form .ensures) ∙ not-false _ (c .before .if1 .left)) (c .if2 .left)
 

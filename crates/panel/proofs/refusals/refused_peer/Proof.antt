@@ -1,38 +1,27 @@
-use mathlib.Core.Path.{_≡_}
-use mathlib.Core.Path.{sym, _∙_}
-use Rattle.panel.specs.Events.{isPeer}
-use Rattle.panel.proofs.Refusing.{peer-first, peer-4, peer-0}
+-- `panel::refusals::refused_peer` meets its contract. Assumes nothing.
 use borrow.Author.Needs.{needs}
+use mathlib.Core.Path.{_≡_, sym, _∙_}
+use Rattle.panel.proofs.Refusing.{peer-first, peer-4, peer-0}
 use Rattle.panel.proofs.refusals.refused_peer.Statement.{statement}
 use Rattle.panel.proofs.refusals.refused_peer.Tie as tie
-use Rattle.panel.proofs.refusals.refused_peer.Reads as reads
-use Rattle.panel.proofs.refusals.refused_peer.Lts as lts
-use Rattle.panel.proofs.form.is_panel.Reads as is-panel-reads
-use Rattle.panel.proofs.refusals.refused_first.Reads as refused-first-reads
-use Rattle.tables.proofs.both.Reads as both-reads
+use Rattle.panel.specs.Events.{isPeer}
 
--- src/refusals.rt:80:9
 refused-first-requires : tie.Need-refused-first-requires
 refused-first-requires c κs = search needs
 
--- src/refusals.rt:82:9
 returns : tie.Need-returns
 returns c = peer-first _ _ _ _ (c .before .refused-first .ensures) (c .if1 .taken)
 
--- src/refusals.rt:84:9
 is-panel-requires : tie.Need-is-panel-requires
 is-panel-requires c κs = search needs
 
--- src/refusals.rt:85:8
 both-requires : tie.Need-both-requires
 both-requires c κs = search needs
 
--- src/refusals.rt:77:1
 returns-2 : tie.Need-returns-2
 unfolding isPeer
 returns-2 c = let b : c .before .both .result ≡ isPeer (c .before .before .before .before .before .before .args .p) (c .before .before .before .before .before .before .args .j) = simp (c .before .both .ensures, c .before .before .before .is-panel .ensures) in peer-0 _ _ _ (sym (c .before .before .before .before .before .refused-first .ensures) ∙ c .before .before .before .before .if1 .left) (sym b ∙ c .if2 .taken)
 
--- src/refusals.rt:77:1
 returns-3 : tie.Need-returns-3
 unfolding isPeer
 returns-3 c = let b : c .before .both .result ≡ isPeer (c .before .before .before .before .before .before .args .p) (c .before .before .before .before .before .before .args .j) = simp (c .before .both .ensures, c .before .before .before .is-panel .ensures) in peer-4 _ _ _ (sym (c .before .before .before .before .before .refused-first .ensures) ∙ c .before .before .before .before .if1 .left) (sym b ∙ c .if2 .left)

@@ -1,55 +1,40 @@
-use mathlib.Core.Path.{sym, ap, _∙_}
-use Prim.Native.Nat.{ℕ, _-_}
-use borrow.Author.Tests.{eq-eqb, ne-eqb}
-use native.Mathlib.Omega.{arith}
-use Rattle.panel.specs.Events.{proceedFromTrials}
-use Rattle.panel.proofs.Refusing.{peer-place, more-first, proceed-given, proceed-0}
+-- `panel::refusals::refused_proceed_from` meets its contract. Assumes nothing.
 use borrow.Author.Needs.{needs}
+use mathlib.Core.Path.{sym, _∙_}
+use native.Mathlib.Omega.{arith}
+use Rattle.panel.proofs.Refusing.{peer-place, more-first, proceed-given, proceed-0}
 use Rattle.panel.proofs.refusals.refused_proceed_from.Statement.{statement}
 use Rattle.panel.proofs.refusals.refused_proceed_from.Tie as tie
-use Rattle.panel.proofs.refusals.refused_proceed_from.Reads as reads
-use Rattle.panel.proofs.refusals.refused_proceed_from.Lts as lts
-use Rattle.panel.proofs.refusals.refused_peer.Reads as refused-peer-reads
-use Rattle.tables.proofs.wide.Reads as wide-reads
+use Rattle.panel.specs.Events.{proceedFromTrials}
 
--- src/refusals.rt:144:9
 refused-peer-requires : tie.Need-refused-peer-requires
 refused-peer-requires c κs = search needs
 
--- src/refusals.rt:146:9
 returns : tie.Need-returns
 unfolding proceedFromTrials
 returns c = more-first _ _ _ _ _ _ (c .before .refused-peer .ensures) (c .if1 .taken)
 
--- src/refusals.rt:148:13
 wide-requires : tie.Need-wide-requires
 wide-requires c κs = search needs
 
--- src/refusals.rt:148:13
 sub-i : tie.Need-sub-i
 sub-i c = let s = peer-place (c .before .before .before .args .t1) _ _ (sym (c .before .before .refused-peer .ensures) ∙ c .before .if1 .left) in omega (arith, s .2 .low, c .wide .ensures .0)
 
--- src/refusals.rt:149:13
 wide-requires-2 : tie.Need-wide-requires-2
 wide-requires-2 c κs = search needs
 
--- src/refusals.rt:149:13
 sub-k : tie.Need-sub-k
 sub-k c = let s = peer-place (c .before .before .before .before .args .t1) _ _ (sym (c .before .before .before .refused-peer .ensures) ∙ c .before .before .if1 .left) in omega (arith, s .0, c .wide2 .ensures .0)
 
--- src/refusals.rt:150:8
 element-copy-out-if2 : tie.Need-element-copy-out-if2
 element-copy-out-if2 c = let s = peer-place (c .before .before .before .before .args .t1) _ _ (sym (c .before .before .before .refused-peer .ensures) ∙ c .before .before .if1 .left) in omega (arith, s .0, s .1, c .wide2 .ensures .0)
 
--- src/refusals.rt:150:20
 element-copy-out-if2-2 : tie.Need-element-copy-out-if2-2
 element-copy-out-if2-2 c = let s = peer-place (c .before .before .before .before .args .t1) _ _ (sym (c .before .before .before .refused-peer .ensures) ∙ c .before .before .if1 .left) in omega (arith, s .2 .low, s .2 .high, c .before .wide .ensures .0)
 
--- src/refusals.rt:141:1
 returns-2 : tie.Need-returns-2
 returns-2 c = proceed-given (c .before .before .before .before .before .args .t1) _ _ _ _ (c .before .before .wide .ensures .0) (c .before .wide2 .ensures .0) (sym (c .before .before .before .before .refused-peer .ensures) ∙ c .before .before .before .if1 .left) (c .if2 .taken)
 
--- src/refusals.rt:141:1
 returns-3 : tie.Need-returns-3
 returns-3 c = proceed-0 (c .before .before .before .before .before .args .t1) _ _ _ _ (c .before .before .wide .ensures .0) (c .before .wide2 .ensures .0) (sym (c .before .before .before .before .refused-peer .ensures) ∙ c .before .before .before .if1 .left) (c .if2 .left)
 

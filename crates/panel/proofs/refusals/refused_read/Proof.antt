@@ -1,51 +1,38 @@
-use mathlib.Core.Path.{sym, subst, _∙_}
+-- `panel::refusals::refused_read` meets its contract. Assumes nothing.
 use Prim.Native.Nat.{ℕ, _≤_, _<_, _-_}
+use borrow.Author.Needs.{needs}
 use borrow.Author.Tests.{not-true, not-false}
+use mathlib.Core.Path.{sym, subst, _∙_}
 use native.Mathlib.Omega.{arith}
 use Rattle.tables.specs.Places.{rAt}
 use Rattle.panel.proofs.Refusing.{first-sized, read-first, read-7, read-8, read-0}
-use borrow.Author.Needs.{needs}
 use Rattle.panel.proofs.refusals.refused_read.Statement.{statement}
 use Rattle.panel.proofs.refusals.refused_read.Tie as tie
-use Rattle.panel.proofs.refusals.refused_read.Reads as reads
-use Rattle.panel.proofs.refusals.refused_read.Lts as lts
-use Rattle.panel.proofs.refusals.is_idle.Reads as is-idle-reads
-use Rattle.panel.proofs.refusals.refused_first.Reads as refused-first-reads
-use Rattle.tables.proofs.wide.Reads as wide-reads
 
--- src/refusals.rt:64:9
 refused-first-requires : tie.Need-refused-first-requires
 refused-first-requires c κs = search needs
 
--- src/refusals.rt:66:9
 returns : tie.Need-returns
 returns c = read-first _ _ _ (c .before .refused-first .ensures) (c .if1 .taken)
 
--- src/refusals.rt:69:9
 is-idle-requires : tie.Need-is-idle-requires
 is-idle-requires c κs = search needs
 
--- src/refusals.rt:70:9
 returns-2 : tie.Need-returns-2
 returns-2 c = read-7 _ _ (sym (c .before .before .before .refused-first .ensures) ∙ c .before .before .if1 .left) (sym (c .before .is-idle .ensures) ∙ not-true _ (c .if2 .taken))
 
--- src/refusals.rt:72:13
 wide-requires : tie.Need-wide-requires
 wide-requires c κs = search needs
 
--- src/refusals.rt:72:13
 sub-i : tie.Need-sub-i
 sub-i c = let s = first-sized (c .before .before .before .before .before .args .t1) _ (sym (c .before .before .before .before .refused-first .ensures) ∙ c .before .before .before .if1 .left) in omega (arith, s .low, c .wide .ensures .0)
 
--- src/refusals.rt:73:15
 element-copy-out-if3 : tie.Need-element-copy-out-if3
 element-copy-out-if3 c = let s = first-sized (c .before .before .before .before .before .args .t1) _ (sym (c .before .before .before .before .refused-first .ensures) ∙ c .before .before .before .if1 .left) in omega (arith, s .low, s .high, c .wide .ensures .0)
 
--- src/refusals.rt:61:1
 returns-3 : tie.Need-returns-3
 returns-3 c = read-8 _ _ (sym (c .before .before .before .before .before .refused-first .ensures) ∙ c .before .before .before .before .if1 .left) (sym (c .before .before .before .is-idle .ensures) ∙ not-false _ (c .before .before .if2 .left)) (subst (λ (i : ℕ). 100 ≤ rAt (c .before .before .before .before .before .before .args .t1 .r) (i - 1)) (c .before .wide .ensures .0) (c .if3 .taken))
 
--- src/refusals.rt:61:1
 returns-4 : tie.Need-returns-4
 returns-4 c = read-0 _ _ (sym (c .before .before .before .before .before .refused-first .ensures) ∙ c .before .before .before .before .if1 .left) (sym (c .before .before .before .is-idle .ensures) ∙ not-false _ (c .before .before .if2 .left)) (subst (λ (i : ℕ). rAt (c .before .before .before .before .before .before .args .t1 .r) (i - 1) < 100) (c .before .wide .ensures .0) (c .if3 .left))
 

@@ -1,61 +1,45 @@
-use mathlib.Core.Path.{subst}
+-- `panel::refusals::refused_write` meets its contract. Assumes nothing.
 use Prim.Native.Nat.{ℕ, _≤_, _<_, _-_}
-use Rattle.tables.specs.Places.{wAt}
-use mathlib.Core.Path.{sym, _∙_}
-use borrow.Author.Tests.{not-true, not-false, eq-eqb, ne-eqb}
-use native.Mathlib.Omega.{arith}
-use Rattle.panel.specs.Form.{atWriter}
-use Rattle.panel.specs.Asked.{Sized}
-use Rattle.panel.proofs.Refusing.{first-sized, write-first, write-6, write-7, write-8, write-0}
 use borrow.Author.Needs.{needs}
+use borrow.Author.Tests.{not-true, not-false, eq-eqb, ne-eqb}
+use mathlib.Core.Path.{subst, sym, _∙_}
+use native.Mathlib.Omega.{arith}
+use Rattle.tables.specs.Places.{wAt}
+use Rattle.panel.proofs.Refusing.{first-sized, write-first, write-6, write-7, write-8, write-0}
 use Rattle.panel.proofs.refusals.refused_write.Statement.{statement}
 use Rattle.panel.proofs.refusals.refused_write.Tie as tie
-use Rattle.panel.proofs.refusals.refused_write.Reads as reads
-use Rattle.panel.proofs.refusals.refused_write.Lts as lts
-use Rattle.panel.proofs.refusals.is_idle.Reads as is-idle-reads
-use Rattle.panel.proofs.refusals.refused_first.Reads as refused-first-reads
-use Rattle.tables.proofs.wide.Reads as wide-reads
+use Rattle.panel.specs.Form.{atWriter}
 
--- src/refusals.rt:46:9
 refused-first-requires : tie.Need-refused-first-requires
 refused-first-requires c κs = search needs
 
--- src/refusals.rt:48:9
 returns : tie.Need-returns
 returns c = write-first _ _ _ (c .before .refused-first .ensures) (c .if1 .taken)
 
--- src/refusals.rt:51:9
 returns-2 : tie.Need-returns-2
 unfolding atWriter
 returns-2 c = write-6 _ _ (sym (c .before .before .refused-first .ensures) ∙ c .before .if1 .left) (ne-eqb _ _ (c .if2 .taken))
 
--- src/refusals.rt:54:9
 is-idle-requires : tie.Need-is-idle-requires
 is-idle-requires c κs = search needs
 
--- src/refusals.rt:55:9
 returns-3 : tie.Need-returns-3
 unfolding atWriter
 returns-3 c = write-7 _ _ (sym (c .before .before .before .before .refused-first .ensures) ∙ c .before .before .before .if1 .left) (eq-eqb _ _ (c .before .before .if2 .left)) (sym (c .before .is-idle .ensures) ∙ not-true _ (c .if3 .taken))
 
--- src/refusals.rt:57:13
 wide-requires : tie.Need-wide-requires
 wide-requires c κs = search needs
 
--- src/refusals.rt:57:13
 sub-i : tie.Need-sub-i
 sub-i c = let s = first-sized (c .before .before .before .before .before .before .args .t1) _ (sym (c .before .before .before .before .before .refused-first .ensures) ∙ c .before .before .before .before .if1 .left) in omega (arith, s .low, c .wide .ensures .0)
 
--- src/refusals.rt:58:15
 element-copy-out-if4 : tie.Need-element-copy-out-if4
 element-copy-out-if4 c = let s = first-sized (c .before .before .before .before .before .before .args .t1) _ (sym (c .before .before .before .before .before .refused-first .ensures) ∙ c .before .before .before .before .if1 .left) in omega (arith, s .low, s .high, c .wide .ensures .0)
 
--- src/refusals.rt:43:1
 returns-4 : tie.Need-returns-4
 unfolding atWriter
 returns-4 c = write-8 _ _ (sym (c .before .before .before .before .before .before .refused-first .ensures) ∙ c .before .before .before .before .before .if1 .left) (eq-eqb _ _ (c .before .before .before .before .if2 .left)) (sym (c .before .before .before .is-idle .ensures) ∙ not-false _ (c .before .before .if3 .left)) (subst (λ (i : ℕ). 200 ≤ wAt (c .before .before .before .before .before .before .before .args .t1 .w) (i - 1)) (c .before .wide .ensures .0) (c .if4 .taken))
 
--- src/refusals.rt:43:1
 returns-5 : tie.Need-returns-5
 unfolding atWriter
 returns-5 c = write-0 _ _ (sym (c .before .before .before .before .before .before .refused-first .ensures) ∙ c .before .before .before .before .before .if1 .left) (eq-eqb _ _ (c .before .before .before .before .if2 .left)) (sym (c .before .before .before .is-idle .ensures) ∙ not-false _ (c .before .before .if3 .left)) (subst (λ (i : ℕ). wAt (c .before .before .before .before .before .before .before .args .t1 .w) (i - 1) < 200) (c .before .wide .ensures .0) (c .if4 .left))

@@ -1,55 +1,40 @@
-use mathlib.Core.Path.{sym, ap, subst, _∙_}
+-- `panel::rules::proceed_from_done` meets its contract. Assumes nothing.
 use Prim.Native.Nat.{ℕ, _-_}
-use native.Mathlib.Omega.{arith}
-use Rattle.panel.specs.declared.Ruled.{Ruled}
-use Rattle.panel.specs.Asked.{Looks}
-use Rattle.panel.specs.Rules.{proceedRule}
-use Rattle.panel.specs.Events.{refusal, trials, rule}
-use Rattle.panel.specs.Events.Event.{proceedFrom}
+use borrow.Author.Needs.{needs}
+use mathlib.Core.Path.{sym, ap, subst, _∙_}
+use Rattle.panel.proofs.Happening.{happens-refused, happens-taken, comes}
 use Rattle.panel.proofs.Passing.{may-proceed-from}
 use Rattle.panel.proofs.Running.{looks-proceed}
-use Rattle.panel.proofs.Happening.{happens-refused, happens-taken, comes}
-use borrow.Author.Needs.{needs}
 use Rattle.panel.proofs.rules.proceed_from_done.Statement.{statement}
 use Rattle.panel.proofs.rules.proceed_from_done.Tie as tie
-use Rattle.panel.proofs.rules.proceed_from_done.Reads as reads
-use Rattle.panel.proofs.rules.proceed_from_done.Lts as lts
-use Rattle.panel.proofs.look.looked_at.Reads as looked-at-reads
-use Rattle.panel.proofs.refusals.refused_by.Reads as refused-by-reads
-use Rattle.panel.proofs.refusals.refused_proceed_from.Reads as refused-proceed-from-reads
-use Rattle.panel.proofs.rules.proceed_rule.Reads as proceed-rule-reads
-use Rattle.tables.proofs.wide.Reads as wide-reads
+use Rattle.panel.specs.Asked.{Looks}
+use Rattle.panel.specs.Events.Event.{proceedFrom}
+use Rattle.panel.specs.Events.{refusal, trials, rule}
+use Rattle.panel.specs.Rules.{proceedRule}
+use Rattle.panel.specs.declared.Ruled.{Ruled}
 
--- src/rules.rt:185:9
 refused-proceed-from-requires : tie.Need-refused-proceed-from-requires
 refused-proceed-from-requires c κs = search needs
 
--- src/rules.rt:187:9
 refused-by-requires : tie.Need-refused-by-requires
 refused-by-requires c κs = search needs
 
--- src/rules.rt:187:9
 returns : tie.Need-returns
 unfolding refusal trials
 returns c = c .refused-by .ensures ∙ happens-refused _ _ (proceedFrom (c .before .before .before .args .j)) _ (c .before .before .refused-proceed-from .ensures) (c .before .if1 .taken)
 
--- src/rules.rt:189:31
 wide-requires : tie.Need-wide-requires
 wide-requires c κs = search needs
 
--- src/rules.rt:189:31
 sub-proceed-rule : tie.Need-sub-proceed-rule
 sub-proceed-rule c = let m = comes (c .before .before .before .args .p) _ _ _ (c .wide .ensures .0) (may-proceed-from (c .before .before .before .args .p) (c .before .before .before .args .room) (c .before .before .before .args .j) (sym (c .before .before .refused-proceed-from .ensures) ∙ c .before .if1 .left) .0) in m .low
 
--- src/rules.rt:189:15
 proceed-rule-requires : tie.Need-proceed-rule-requires
 proceed-rule-requires c κs = let m = comes (c .before .before .before .args .p) _ _ _ (c .wide .ensures .0) (may-proceed-from (c .before .before .before .args .p) (c .before .before .before .args .room) (c .before .before .before .args .j) (sym (c .before .before .refused-proceed-from .ensures) ∙ c .before .if1 .left) .0) in (m .place, m .r-small)
 
--- src/rules.rt:189:5
 looked-at-requires : tie.Need-looked-at-requires
 looked-at-requires c κs = let m = comes (c .before .before .before .before .args .p) _ _ _ (c .before .wide .ensures .0) (may-proceed-from (c .before .before .before .before .args .p) (c .before .before .before .before .args .room) (c .before .before .before .before .args .j) (sym (c .before .before .before .refused-proceed-from .ensures) ∙ c .before .before .if1 .left) .0) in subst (λ (q : Ruled). Looks (q .panel)) (sym (c .proceed-rule .ensures)) (looks-proceed (c .before .before .before .before .args .p) (m .form) _)
 
--- src/rules.rt:182:1
 returns-2 : tie.Need-returns-2
 unfolding refusal trials rule
 returns-2 c = c .looked-at .ensures ∙ happens-taken _ _ (proceedFrom (c .before .before .before .before .before .args .j)) _ (c .before .before .before .before .refused-proceed-from .ensures) (c .before .before .before .if1 .left) _ (c .before .proceed-rule .ensures ∙ ap (λ (x : ℕ). proceedRule (c .before .before .before .before .before .args .p) (x - 1)) (c .before .before .wide .ensures .0))

@@ -1,44 +1,33 @@
+-- `panel::rules::read_done` meets its contract. Assumes nothing.
+use borrow.Author.Needs.{needs}
 use mathlib.Core.Path.{sym, subst, _∙_}
-use Rattle.panel.specs.declared.Ruled.{Ruled}
-use Rattle.panel.specs.Asked.{Looks}
-use Rattle.panel.specs.Events.{refusal, trials, rule}
-use Rattle.panel.specs.Events.Event.{read}
+use Rattle.panel.proofs.Happening.{happens-refused, happens-taken}
 use Rattle.panel.proofs.InForm.{form-view, sized}
 use Rattle.panel.proofs.Passing.{may-read}
 use Rattle.panel.proofs.Running.{looks-read}
-use Rattle.panel.proofs.Happening.{happens-refused, happens-taken}
-use borrow.Author.Needs.{needs}
 use Rattle.panel.proofs.rules.read_done.Statement.{statement}
 use Rattle.panel.proofs.rules.read_done.Tie as tie
-use Rattle.panel.proofs.rules.read_done.Reads as reads
-use Rattle.panel.proofs.rules.read_done.Lts as lts
-use Rattle.panel.proofs.look.looked_at.Reads as looked-at-reads
-use Rattle.panel.proofs.refusals.refused_by.Reads as refused-by-reads
-use Rattle.panel.proofs.refusals.refused_read.Reads as refused-read-reads
-use Rattle.panel.proofs.rules.read_rule.Reads as read-rule-reads
+use Rattle.panel.specs.Asked.{Looks}
+use Rattle.panel.specs.Events.Event.{read}
+use Rattle.panel.specs.Events.{refusal, trials, rule}
+use Rattle.panel.specs.declared.Ruled.{Ruled}
 
--- src/rules.rt:122:9
 refused-read-requires : tie.Need-refused-read-requires
 refused-read-requires c κs = search needs
 
--- src/rules.rt:124:9
 refused-by-requires : tie.Need-refused-by-requires
 refused-by-requires c κs = search needs
 
--- src/rules.rt:124:9
 returns : tie.Need-returns
 unfolding refusal trials
 returns c = c .refused-by .ensures ∙ happens-refused _ _ read _ (c .before .before .refused-read .ensures) (c .before .if1 .taken)
 
--- src/rules.rt:126:15
 read-rule-requires : tie.Need-read-rule-requires
 read-rule-requires c κs = let m = may-read (c .before .before .args .p) (c .before .before .args .room) (sym (c .before .refused-read .ensures) ∙ c .if1 .left) in (sized _ (form-view _ (m .form)), m .left)
 
--- src/rules.rt:126:5
 looked-at-requires : tie.Need-looked-at-requires
 looked-at-requires c κs = let m = may-read (c .before .before .before .args .p) (c .before .before .before .args .room) (sym (c .before .before .refused-read .ensures) ∙ c .before .if1 .left) in subst (λ (q : Ruled). Looks (q .panel)) (sym (c .read-rule .ensures)) (looks-read (c .before .before .before .args .p) (form-view _ (m .form)))
 
--- src/rules.rt:119:1
 returns-2 : tie.Need-returns-2
 unfolding refusal trials rule
 returns-2 c = c .looked-at .ensures ∙ happens-taken _ _ read _ (c .before .before .before .refused-read .ensures) (c .before .before .if1 .left) _ (c .before .read-rule .ensures)

@@ -1,58 +1,43 @@
-use mathlib.Core.Path.{sym, ap, subst, _∙_}
+-- `panel::rules::read_from_done` meets its contract. Assumes nothing.
 use Prim.Native.Nat.{ℕ, _-_, _<_}
-use native.Mathlib.Omega.{arith}
+use borrow.Author.Needs.{needs}
+use mathlib.Core.Path.{sym, ap, subst, _∙_}
 use Rattle.tables.specs.Places.{wAt, lineAt}
-use Rattle.panel.specs.declared.Ruled.{Ruled}
-use Rattle.panel.specs.Setting.{ownW}
-use Rattle.panel.specs.Asked.{Looks}
-use Rattle.panel.specs.Rules.{readFromRule}
-use Rattle.panel.specs.Events.{refusal, trials, rule}
-use Rattle.panel.specs.Events.Event.{readFrom}
+use Rattle.panel.proofs.Happening.{happens-refused, happens-taken, comes}
 use Rattle.panel.proofs.InForm.{sized}
 use Rattle.panel.proofs.Passing.{may-read-from, line-room}
 use Rattle.panel.proofs.Running.{looks-read-from}
-use Rattle.panel.proofs.Happening.{happens-refused, happens-taken, comes}
-use borrow.Author.Needs.{needs}
 use Rattle.panel.proofs.rules.read_from_done.Statement.{statement}
 use Rattle.panel.proofs.rules.read_from_done.Tie as tie
-use Rattle.panel.proofs.rules.read_from_done.Reads as reads
-use Rattle.panel.proofs.rules.read_from_done.Lts as lts
-use Rattle.panel.proofs.look.looked_at.Reads as looked-at-reads
-use Rattle.panel.proofs.refusals.refused_by.Reads as refused-by-reads
-use Rattle.panel.proofs.refusals.refused_read_from.Reads as refused-read-from-reads
-use Rattle.panel.proofs.rules.read_from_rule.Reads as read-from-rule-reads
-use Rattle.tables.proofs.wide.Reads as wide-reads
+use Rattle.panel.specs.Asked.{Looks}
+use Rattle.panel.specs.Events.Event.{readFrom}
+use Rattle.panel.specs.Events.{refusal, trials, rule}
+use Rattle.panel.specs.Rules.{readFromRule}
+use Rattle.panel.specs.Setting.{ownW}
+use Rattle.panel.specs.declared.Ruled.{Ruled}
 
--- src/rules.rt:161:9
 refused-read-from-requires : tie.Need-refused-read-from-requires
 refused-read-from-requires c κs = search needs
 
--- src/rules.rt:163:9
 refused-by-requires : tie.Need-refused-by-requires
 refused-by-requires c κs = search needs
 
--- src/rules.rt:163:9
 returns : tie.Need-returns
 unfolding refusal trials
 returns c = c .refused-by .ensures ∙ happens-refused _ _ (readFrom (c .before .before .before .args .j)) _ (c .before .before .refused-read-from .ensures) (c .before .if1 .taken)
 
--- src/rules.rt:165:33
 wide-requires : tie.Need-wide-requires
 wide-requires c κs = search needs
 
--- src/rules.rt:165:33
 sub-read-from-rule : tie.Need-sub-read-from-rule
 sub-read-from-rule c = let m = comes (c .before .before .before .args .p) _ _ _ (c .wide .ensures .0) (may-read-from (c .before .before .before .args .p) (c .before .before .before .args .room) (c .before .before .before .args .j) (sym (c .before .before .refused-read-from .ensures) ∙ c .before .if1 .left) .0) in m .low
 
--- src/rules.rt:165:15
 read-from-rule-requires : tie.Need-read-from-rule-requires
 read-from-rule-requires c κs = let a = may-read-from (c .before .before .before .args .p) (c .before .before .before .args .room) (c .before .before .before .args .j) (sym (c .before .before .refused-read-from .ensures) ∙ c .before .if1 .left) in let m = comes (c .before .before .before .args .p) _ _ _ (c .wide .ensures .0) (a .0) in (sized _ (m .form), m .place, subst (λ (x : ℕ). wAt (c .before .before .before .args .p .w) (x - 1) < ownW (c .before .before .before .args .p) → lineAt (c .before .before .before .args .p .lines) (x - 1) .len < 100) (sym (c .wide .ensures .0)) (line-room (c .before .before .before .args .p) _ (a .1)))
 
--- src/rules.rt:165:5
 looked-at-requires : tie.Need-looked-at-requires
 looked-at-requires c κs = let m = comes (c .before .before .before .before .args .p) _ _ _ (c .before .wide .ensures .0) (may-read-from (c .before .before .before .before .args .p) (c .before .before .before .before .args .room) (c .before .before .before .before .args .j) (sym (c .before .before .before .refused-read-from .ensures) ∙ c .before .before .if1 .left) .0) in subst (λ (q : Ruled). Looks (q .panel)) (sym (c .read-from-rule .ensures)) (looks-read-from (c .before .before .before .before .args .p) (m .form) _)
 
--- src/rules.rt:158:1
 returns-2 : tie.Need-returns-2
 unfolding refusal trials rule
 returns-2 c = c .looked-at .ensures ∙ happens-taken _ _ (readFrom (c .before .before .before .before .before .args .j)) _ (c .before .before .before .before .refused-read-from .ensures) (c .before .before .before .if1 .left) _ (c .before .read-from-rule .ensures ∙ ap (λ (x : ℕ). readFromRule (c .before .before .before .before .before .args .p) (x - 1)) (c .before .before .wide .ensures .0))

@@ -1,60 +1,42 @@
-use mathlib.Core.Path.{ap, _∙_}
-use Rattle.panel.proofs.Happening.{read-answered, read-waits}
+-- `panel::rules::read_from_rule` meets its contract. Assumes nothing.
 use borrow.Author.Needs.{needs}
+use Rattle.panel.proofs.Happening.{read-answered, read-waits}
 use Rattle.panel.proofs.rules.read_from_rule.Statement.{statement}
 use Rattle.panel.proofs.rules.read_from_rule.Tie as tie
-use Rattle.panel.proofs.rules.read_from_rule.Reads as reads
-use Rattle.panel.proofs.rules.read_from_rule.Lts as lts
-use Rattle.panel.proofs.rules.sends_proceeds.Reads as sends-proceeds-reads
-use Rattle.panel.proofs.rules.with_line.Reads as with-line-reads
-use Rattle.tables.proofs.joined.Reads as joined-reads
-use Rattle.tables.proofs.wide.Reads as wide-reads
 
--- src/rules.rt:143:13
 wide-requires : tie.Need-wide-requires
 wide-requires c κs = search needs
 
--- src/rules.rt:143:13
 sub-i : tie.Need-sub-i
 sub-i c = search needs
 
--- src/rules.rt:144:14
 element-copy-out-sn : tie.Need-element-copy-out-sn
 element-copy-out-sn c = search needs
 
--- src/rules.rt:145:16
 element-copy-out-if1 : tie.Need-element-copy-out-if1
 element-copy-out-if1 c = search needs
 
--- src/rules.rt:148:20
 sends-proceeds-requires : tie.Need-sends-proceeds-requires
 sends-proceeds-requires c κs = search needs
 
--- src/rules.rt:146:9
 returns : tie.Need-returns
 returns c = simp (c .sends-proceeds .ensures) (read-answered _ _ _ (c .before .before .before .before .wide .ensures .0) (c .before .if1 .taken))
 
--- src/rules.rt:151:13
 mul-l : tie.Need-mul-l
 mul-l c = search needs
 
--- src/rules.rt:151:13
 element-copy-out-l : tie.Need-element-copy-out-l
 element-copy-out-l c = search needs
 
--- src/rules.rt:153:32
 joined-requires : tie.Need-joined-requires
 joined-requires c κs = search needs
 
--- src/rules.rt:153:16
 with-line-requires : tie.Need-with-line-requires
 with-line-requires c κs = search needs
 
--- src/rules.rt:154:16
 sends-proceeds-requires-2 : tie.Need-sends-proceeds-requires-2
 sends-proceeds-requires-2 c κs = search needs
 
--- src/rules.rt:139:1
 returns-2 : tie.Need-returns-2
 returns-2 c = simp (c .sends-proceeds2 .ensures, c .before .with-line .ensures) (read-waits (c .before .before .before .before .before .before .before .before .args .t1) _ _ (c .before .before .before .before .before .before .before .wide .ensures .0) _ (c .before .before .joined .ensures) (c .before .before .before .before .if1 .left) (c .before .before .before .before .before .before .before .before .pre .2))
 

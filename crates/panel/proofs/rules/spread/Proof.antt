@@ -1,45 +1,34 @@
-use mathlib.Core.Path.{sym, subst}
+-- `panel::rules::spread` meets its contract. Assumes nothing.
 use Prim.Native.Nat.{ℕ, _-_, _<_}
+use borrow.Author.Needs.{needs}
+use mathlib.Core.Path.{sym, subst}
 use native.Mathlib.Omega.{arith}
 use Rattle.tables.specs.Places.{wAt}
-use Rattle.panel.specs.Rules.{learned, spread}
-use borrow.Author.Needs.{needs}
 use Rattle.panel.proofs.rules.spread.Statement.{statement}
 use Rattle.panel.proofs.rules.spread.Tie as tie
-use Rattle.panel.proofs.rules.spread.Reads as reads
-use Rattle.panel.proofs.rules.spread.Lts as lts
-use Rattle.tables.proofs.has_w.Reads as has-w-reads
-use Rattle.tables.proofs.wide.Reads as wide-reads
+use Rattle.panel.specs.Rules.{learned, spread}
 
--- src/rules.rt:60:13
 wide-requires : tie.Need-wide-requires
 wide-requires c κs = search needs
 
--- src/rules.rt:60:13
 sub-i : tie.Need-sub-i
 sub-i c = search needs
 
--- src/rules.rt:61:9
 element-copy-out-y : tie.Need-element-copy-out-y
 element-copy-out-y c = search needs
 
--- src/rules.rt:63:21
 add-has-w : tie.Need-add-has-w
 add-has-w c = omega (arith, subst (λ (i : ℕ). wAt (c .before .before .args .t1 .w) (i - 1) < 200) (sym (c .before .wide .ensures .0)) (c .before .before .pre .1))
 
--- src/rules.rt:63:5
 array-set-from-ws : tie.Need-array-set-from-ws
 array-set-from-ws c = search needs
 
--- src/rules.rt:65:13
 has-w-requires : tie.Need-has-w-requires
 has-w-requires c κs = search needs
 
--- src/rules.rt:66:16
 add-t16 : tie.Need-add-t16
 add-t16 c = omega (arith, subst (λ (i : ℕ). wAt (c .before .before .before .args .t1 .w) (i - 1) < 200) (sym (c .before .before .wide .ensures .0)) (c .before .before .before .pre .1))
 
--- src/rules.rt:56:1
 returns : tie.Need-returns
 unfolding spread learned
 returns c = simp (c .has-w .ensures, c .before .before .wide .ensures .0)

@@ -1,16 +1,13 @@
-use Rattle.panel.specs.Rules.{reached}
-use mathlib.Core.Path.{refl}
+-- `panel::take::reached` meets its contract. Assumes nothing.
 use borrow.Author.Needs.{needs}
+use mathlib.Core.Path.{refl}
 use Rattle.panel.proofs.take.reached.Statement.{statement}
 use Rattle.panel.proofs.take.reached.Tie as tie
-use Rattle.panel.proofs.take.reached.Reads as reads
-use Rattle.panel.proofs.take.reached.Lts as lts
+use Rattle.panel.specs.Rules.{reached}
 
--- src/take.rt:26:5
 element-set-from-q : tie.Need-element-set-from-q
 element-set-from-q c = search needs
 
--- src/take.rt:21:1
 returns : tie.Need-returns
 unfolding reached
 returns c = refl

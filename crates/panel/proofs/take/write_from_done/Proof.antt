@@ -1,73 +1,53 @@
-use mathlib.Core.Path.{sym, subst, _∙_}
+-- `panel::take::write_from_done` meets its contract. Assumes nothing.
+use borrow.Author.Needs.{needs}
 use lib.ListN.{length-map}
-use Rattle.panel.specs.declared.Ruled.{Ruled}
-use Rattle.panel.specs.Asked.{Looks}
-use Rattle.panel.specs.Events.{refusal, trials}
-use Rattle.panel.specs.Events.Event.{writeFrom}
+use mathlib.Core.Path.{sym, subst, _∙_}
+use Rattle.panel.proofs.Coming.{takes-all, looks-taken, rule-takes, rule-holds}
+use Rattle.panel.proofs.Happening.{happens-refused, happens-taken, comes}
 use Rattle.panel.proofs.Passing.{may-write-from}
 use Rattle.panel.proofs.Running.{looks-hold}
-use Rattle.panel.proofs.Happening.{happens-refused, happens-taken, comes}
-use Rattle.panel.proofs.Coming.{takes-all, looks-taken, rule-takes, rule-holds}
-use borrow.Author.Needs.{needs}
 use Rattle.panel.proofs.take.write_from_done.Statement.{statement}
 use Rattle.panel.proofs.take.write_from_done.Tie as tie
-use Rattle.panel.proofs.take.write_from_done.Reads as reads
-use Rattle.panel.proofs.take.write_from_done.Lts as lts
-use Rattle.panel.proofs.look.looked_at.Reads as looked-at-reads
-use Rattle.panel.proofs.refusals.refused_by.Reads as refused-by-reads
-use Rattle.panel.proofs.refusals.refused_write_from.Reads as refused-write-from-reads
-use Rattle.panel.proofs.refusals.right_bit.Reads as right-bit-reads
-use Rattle.panel.proofs.take.hold_rule.Reads as hold-rule-reads
-use Rattle.panel.proofs.take.take_rule.Reads as take-rule-reads
-use Rattle.tables.proofs.wide.Reads as wide-reads
+use Rattle.panel.specs.Asked.{Looks}
+use Rattle.panel.specs.Events.Event.{writeFrom}
+use Rattle.panel.specs.Events.{refusal, trials}
+use Rattle.panel.specs.declared.Ruled.{Ruled}
 
--- src/take.rt:127:9
 refused-write-from-requires : tie.Need-refused-write-from-requires
 refused-write-from-requires c κs = search needs
 
--- src/take.rt:129:9
 refused-by-requires : tie.Need-refused-by-requires
 refused-by-requires c κs = search needs
 
--- src/take.rt:129:9
 returns : tie.Need-returns
 unfolding refusal trials
 returns c = c .refused-by .ensures ∙ happens-refused _ _ (writeFrom (c .before .before .before .args .j) (c .before .before .before .args .bit) (c .before .before .before .args .v)) _ (c .before .before .refused-write-from .ensures) (c .before .if1 .taken)
 
--- src/take.rt:131:13
 wide-requires : tie.Need-wide-requires
 wide-requires c κs = search needs
 
--- src/take.rt:131:13
 sub-k : tie.Need-sub-k
 sub-k c = let a = may-write-from (c .before .before .before .args .p) (c .before .before .before .args .room) (c .before .before .before .args .j) (c .before .before .before .args .bit) (sym (c .before .before .refused-write-from .ensures) ∙ c .before .if1 .left) in comes (c .before .before .before .args .p) _ _ _ (c .wide .ensures .0) (a .0) .low
 
--- src/take.rt:132:8
 right-bit-requires : tie.Need-right-bit-requires
 right-bit-requires c κs = let a = may-write-from (c .before .before .before .args .p) (c .before .before .before .args .room) (c .before .before .before .args .j) (c .before .before .before .args .bit) (sym (c .before .before .refused-write-from .ensures) ∙ c .before .if1 .left) in comes (c .before .before .before .args .p) _ _ _ (c .wide .ensures .0) (a .0) .place
 
--- src/take.rt:133:26
 take-rule-requires : tie.Need-take-rule-requires
 take-rule-requires c κs = let a = may-write-from (c .before .before .before .before .before .args .p) (c .before .before .before .before .before .args .room) (c .before .before .before .before .before .args .j) (c .before .before .before .before .before .args .bit) (sym (c .before .before .before .before .refused-write-from .ensures) ∙ c .before .before .before .if1 .left) in takes-all (c .before .before .before .before .before .args .p) _ _ _ (c .before .before .before .before .before .args .bit) (c .before .before .wide .ensures .0) (a .0) (a .1) (sym (c .before .right-bit .ensures) ∙ c .if2 .taken)
 
--- src/take.rt:133:9
 looked-at-requires : tie.Need-looked-at-requires
 looked-at-requires c κs = let a = may-write-from (c .before .before .before .before .before .before .args .p) (c .before .before .before .before .before .before .args .room) (c .before .before .before .before .before .before .args .j) (c .before .before .before .before .before .before .args .bit) (sym (c .before .before .before .before .before .refused-write-from .ensures) ∙ c .before .before .before .before .if1 .left) in subst (λ (q : Ruled). Looks (q .panel)) (sym (c .take-rule .ensures)) (looks-taken (c .before .before .before .before .before .before .args .p) _ _ _ (c .before .before .before .before .before .before .args .bit) (c .before .before .before .wide .ensures .0) (a .0) (a .1) (c .before .before .before .before .before .before .args .v) (sym (length-map (c .before .before .before .before .before .before .args .p .w) _) ∙ c .before .before .before .before .before .before .good .0 .1 .1 .1 .1 .1 .1 .0 .1 .0 .1) (sym (c .before .before .right-bit .ensures) ∙ c .before .if2 .taken))
 
--- src/take.rt:133:9
 returns-2 : tie.Need-returns-2
 unfolding refusal trials
 returns-2 c = c .looked-at .ensures ∙ happens-taken _ _ (writeFrom (c .before .before .before .before .before .before .before .args .j) (c .before .before .before .before .before .before .before .args .bit) (c .before .before .before .before .before .before .before .args .v)) _ (c .before .before .before .before .before .before .refused-write-from .ensures) (c .before .before .before .before .before .if1 .left) _ (c .before .take-rule .ensures ∙ rule-takes (c .before .before .before .before .before .before .before .args .p) _ _ (c .before .before .before .before .before .before .before .args .bit) _ (c .before .before .before .before .wide .ensures .0) (sym (c .before .before .before .right-bit .ensures) ∙ c .before .before .if2 .taken))
 
--- src/take.rt:135:15
 hold-rule-requires : tie.Need-hold-rule-requires
 hold-rule-requires c κs = let a = may-write-from (c .before .before .before .before .before .args .p) (c .before .before .before .before .before .args .room) (c .before .before .before .before .before .args .j) (c .before .before .before .before .before .args .bit) (sym (c .before .before .before .before .refused-write-from .ensures) ∙ c .before .before .before .if1 .left) in comes (c .before .before .before .before .before .args .p) _ _ _ (c .before .before .wide .ensures .0) (a .0) .place
 
--- src/take.rt:135:5
 looked-at-requires-2 : tie.Need-looked-at-requires-2
 looked-at-requires-2 c κs = let a = may-write-from (c .before .before .before .before .before .before .args .p) (c .before .before .before .before .before .before .args .room) (c .before .before .before .before .before .before .args .j) (c .before .before .before .before .before .before .args .bit) (sym (c .before .before .before .before .before .refused-write-from .ensures) ∙ c .before .before .before .before .if1 .left) in subst (λ (q : Ruled). Looks (q .panel)) (sym (c .hold-rule .ensures)) (looks-hold (c .before .before .before .before .before .before .args .p) (comes (c .before .before .before .before .before .before .args .p) _ _ _ (c .before .before .before .wide .ensures .0) (a .0) .form) _ _)
 
--- src/take.rt:124:1
 returns-3 : tie.Need-returns-3
 unfolding refusal trials
 returns-3 c = c .looked-at2 .ensures ∙ happens-taken _ _ (writeFrom (c .before .before .before .before .before .before .before .args .j) (c .before .before .before .before .before .before .before .args .bit) (c .before .before .before .before .before .before .before .args .v)) _ (c .before .before .before .before .before .before .refused-write-from .ensures) (c .before .before .before .before .before .if1 .left) _ (c .before .hold-rule .ensures ∙ rule-holds (c .before .before .before .before .before .before .before .args .p) _ _ (c .before .before .before .before .before .before .before .args .bit) _ (c .before .before .before .before .wide .ensures .0) (sym (c .before .before .before .right-bit .ensures) ∙ c .before .before .if2 .left))
