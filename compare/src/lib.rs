@@ -4,5 +4,6 @@
 //! Only numbers and byte slices cross the boundary: a slice goes as a pointer and a length. The proved
 //! functions take any of these, so no wrapper has anything to test first.
 
+pub mod panel;
 pub mod programs;
 pub mod wire;

@@ -1,8 +1,12 @@
 -- Each contract of this crate allows one outcome.
 -- Assumes nothing.
-use mathlib.Core.Path.{sym, _∙_}
+use mathlib.Core.Path.{sym, ap, _∙_}
+use mathlib.Core.List.{List}
+use Prim.Native.Nat.{ℕ}
 use denote.Ref.{now}
 use Rattle.basics.specs.Outcome.{OneResult, OneOutcome}
+use Rattle.messages.specs.Area.{Area}
+use Rattle.compared.specs.Reported.{Reported}
 use Rattle.compared.proofs.compared_read_refusal.Kinds as read-refusal-kinds
 use Rattle.compared.proofs.compared_read_refusal.Reads as read-refusal
 use Rattle.compared.proofs.compared_read_kind.Kinds as read-kind-kinds
@@ -15,6 +19,20 @@ use Rattle.compared.proofs.compared_write_refusal.Kinds as write-refusa
 use Rattle.compared.proofs.compared_write_refusal.Reads as write-refusal
 use Rattle.compared.proofs.compared_write_used.Kinds as write-used-kinds
 use Rattle.compared.proofs.compared_write_used.Reads as write-used
+use Rattle.compared.proofs.compared_panel_write.Kinds as panel-write-kinds
+use Rattle.compared.proofs.compared_panel_write.Reads as panel-write
+use Rattle.compared.proofs.compared_panel_read.Kinds as panel-read-kinds
+use Rattle.compared.proofs.compared_panel_read.Reads as panel-read
+use Rattle.compared.proofs.compared_panel_write_from.Kinds as panel-write-from-kinds
+use Rattle.compared.proofs.compared_panel_write_from.Reads as panel-write-from
+use Rattle.compared.proofs.compared_panel_read_from.Kinds as panel-read-from-kinds
+use Rattle.compared.proofs.compared_panel_read_from.Reads as panel-read-from
+use Rattle.compared.proofs.compared_panel_proceed_from.Kinds as panel-proceed-from-kinds
+use Rattle.compared.proofs.compared_panel_proceed_from.Reads as panel-proceed-from
+use Rattle.compared.proofs.compared_panel_in_form.Kinds as panel-in-form-kinds
+use Rattle.compared.proofs.compared_panel_in_form.Reads as panel-in-form
+use Rattle.compared.proofs.compared_panel_set_up.Kinds as panel-set-up-kinds
+use Rattle.compared.proofs.compared_panel_set_up.Reads as panel-set-up
 
 pub read-refusal-only : OneResult 1 read-refusal-kinds.ps read-refusal-kinds.r read-refusal.Post
 read-refusal-only κs a x y e f p q = p ∙ sym q
@@ -33,3 +51,41 @@ write-refusal-only κs a x y e f p q = (p .0 ∙ sym (q .0), p .1 ∙ sym (q .1)
 
 pub write-used-only : OneOutcome 1 write-used-kinds.ps write-used-kinds.r (λ κs e. now (e .1 .1 .0)) write-used.Post
 write-used-only κs a x y e f p q = (p .0 ∙ sym (q .0), p .1 ∙ sym (q .1))
+
+-- ---- a lone panel: the count, and what the message area and `out` hold afterwards
+
+pub panel-write-only :
+    OneOutcome 5 panel-write-kinds.ps panel-write-kinds.r {A = Area × List ℕ}
+    (λ κs e. (record { receivers = now (e .1 .1 .0); kinds = now (e .1 .1 .1 .0); values = now (e .1 .1 .1 .1 .0) }, now (e .1 .1 .1 .1 .1 .0)))
+    panel-write.Post
+panel-write-only κs a x y e f p q = (ap (λ (r : Reported). r .count) (p ∙ sym q), ap (λ (r : Reported). (r .area, r .out)) (p ∙ sym q))
+
+pub panel-read-only :
+    OneOutcome 5 panel-read-kinds.ps panel-read-kinds.r {A = Area × List ℕ}
+    (λ κs e. (record { receivers = now (e .1 .0); kinds = now (e .1 .1 .0); values = now (e .1 .1 .1 .0) }, now (e .1 .1 .1 .1 .0)))
+    panel-read.Post
+panel-read-only κs a x y e f p q = (ap (λ (r : Reported). r .count) (p ∙ sym q), ap (λ (r : Reported). (r .area, r .out)) (p ∙ sym q))
+
+pub panel-write-from-only :
+    OneOutcome 5 panel-write-from-kinds.ps panel-write-from-kinds.r {A = Area × List ℕ}
+    (λ κs e. (record { receivers = now (e .1 .1 .1 .1 .0); kinds = now (e .1 .1 .1 .1 .1 .0); values = now (e .1 .1 .1 .1 .1 .1 .0) }, now (e .1 .1 .1 .1 .1 .1 .1 .0)))
+    panel-write-from.Post
+panel-write-from-only κs a x y e f p q = (ap (λ (r : Reported). r .count) (p ∙ sym q), ap (λ (r : Reported). (r .area, r .out)) (p ∙ sym q))
+
+pub panel-read-from-only :
+    OneOutcome 5 panel-read-from-kinds.ps panel-read-from-kinds.r {A = Area × List ℕ}
+    (λ κs e. (record { receivers = now (e .1 .1 .0); kinds = now (e .1 .1 .1 .0); values = now (e .1 .1 .1 .1 .0) }, now (e .1 .1 .1 .1 .1 .0)))
+    panel-read-from.Post
+panel-read-from-only κs a x y e f p q = (ap (λ (r : Reported). r .count) (p ∙ sym q), ap (λ (r : Reported). (r .area, r .out)) (p ∙ sym q))
+
+pub panel-proceed-from-only :
+    OneOutcome 5 panel-proceed-from-kinds.ps panel-proceed-from-kinds.r {A = Area × List ℕ}
+    (λ κs e. (record { receivers = now (e .1 .1 .0); kinds = now (e .1 .1 .1 .0); values = now (e .1 .1 .1 .1 .0) }, now (e .1 .1 .1 .1 .1 .0)))
+    panel-proceed-from.Post
+panel-proceed-from-only κs a x y e f p q = (ap (λ (r : Reported). r .count) (p ∙ sym q), ap (λ (r : Reported). (r .area, r .out)) (p ∙ sym q))
+
+pub panel-in-form-only : OneResult 1 panel-in-form-kinds.ps panel-in-form-kinds.r panel-in-form.Post
+panel-in-form-only κs a x y e f p q = p ∙ sym q
+
+pub panel-set-up-only : OneOutcome 1 panel-set-up-kinds.ps panel-set-up-kinds.r (λ κs e. now (e .1 .1 .1 .1 .1 .0)) panel-set-up.Post
+panel-set-up-only κs a x y e f p q = (p .0 ∙ sym (q .0), p .1 ∙ sym (q .1))

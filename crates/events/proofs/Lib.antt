@@ -1,0 +1,12 @@
+pub mod Cases
+pub mod KeptStarts
+pub mod KeptPeers
+pub mod Taking
+pub mod KeptTake
+pub mod Kept
+pub mod Looking
+pub mod Running
+pub mod Happening
+pub mod Coming
+pub mod Fitting
+pub mod Outcomes

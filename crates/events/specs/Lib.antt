@@ -1,0 +1,4 @@
+pub mod Rules
+pub mod Look
+pub mod Events
+pub mod Asked

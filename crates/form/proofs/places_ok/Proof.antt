@@ -1,0 +1,52 @@
+-- `form::form::places_ok` meets its contract. Assumes nothing.
+use Prim.Native.Nat.{_≤_, _-_}
+use borrow.Author.Needs.{needs}
+use mathlib.Core.Path.{_≡_, refl}
+use native.Mathlib.Omega.{arith}
+use Rattle.basics.proofs.Below.{all-next}
+use Rattle.basics.specs.Below.{allBelow}
+use Rattle.form.proofs.places_ok.Statement.{statement}
+use Rattle.form.proofs.places_ok.Tie as tie
+use Rattle.form.specs.Form.{placeOk}
+
+abbrev Inv-loop : tie.InvT-loop
+Inv-loop p ok₀ j₀ ok j = (j ≤ 7) × (ok ≡ allBelow j (placeOk p))
+
+abbrev μ-loop : tie.MeasureT-loop
+μ-loop p ok₀ j₀ ok j = 7 - j
+
+loop-holds : tie.Need-loop-holds Inv-loop μ-loop
+unfolding allBelow
+loop-holds c = (omega arith, refl)
+
+place-ok-requires : tie.Need-place-ok-requires Inv-loop μ-loop
+place-ok-requires c κs = (omega arith, c .before .before .pre)
+
+both-requires : tie.Need-both-requires Inv-loop μ-loop
+both-requires c κs = search needs
+
+add-j : tie.Need-add-j Inv-loop μ-loop
+add-j c = search needs
+
+loop-less : tie.Need-loop-less Inv-loop μ-loop
+loop-less c = search needs
+
+loop-again : tie.Need-loop-again Inv-loop μ-loop
+loop-again c = (omega arith, simp (all-next, c .both .ensures, c .before .place-ok .ensures, c .before .before .before .loop .inv .1))
+
+returns : tie.Need-returns Inv-loop μ-loop
+returns c = let e : c .before .loop .j ≡ 7 = omega arith in simp (c .before .loop .inv .1, e)
+
+pub places-ok-spec : {M : Type 1} → statement M
+places-ok-spec =
+    tie.close
+    (tie.spec
+    Inv-loop
+    μ-loop
+    loop-holds
+    place-ok-requires
+    both-requires
+    add-j
+    loop-less
+    loop-again
+    returns)

@@ -1,0 +1,173 @@
+// Whether a panel is in form, and the fresh panel.
+ghost use mathlib.Core.Path.{_≡_};
+ghost use Prim.Native.Nat.{_+_, _≤_, _<_};
+ghost use lib.Dec.{leb, eqb};
+ghost use Rattle.basics.specs.Below.{allBelow};
+ghost use Rattle.form.specs.Form.{fits, isPanel, placeWith, placeOk, operationOk, inForm, fresh, emptyLine};
+ghost use Rattle.form.specs.Asked.{Sized};
+use tables::Hold;
+use tables::Line;
+use tables::ReadNo;
+use tables::WriteNo;
+use tables::both;
+use tables::choose;
+use tables::wide;
+
+// What a panel is doing: nothing; writing (line 3); reading, first wait (line 7); reading, second wait with its sn (line 9).
+pub enum Operation {
+    Idle,
+    Writing,
+    FirstWait,
+    SecondWait(WriteNo),
+}
+
+// The tables of panel `number` of `n`, of which `t` may be down. Place 0 of a table is panel 1.
+pub struct Tables {
+    pub n: u8,
+    pub t: u8,
+    pub writer: u8,
+    pub number: u8,
+    pub w: [WriteNo; 7],
+    pub r: [ReadNo; 7],
+    pub history: [u32; 201],
+    pub held: [Hold; 7],
+    pub lines: [Line; 7],
+    pub operation: Operation,
+}
+
+pub fn fits(n: u8, t: u8, writer: u8) -> bool
+    ensures { λ r. ⌜ r ≡ fits n t writer ⌝ }
+{
+    let small = 2 * wide(t) < wide(n);
+    both(
+        1 <= n,
+        both(n <= 7, both(small, both(1 <= writer, writer <= n))),
+    )
+}
+
+pub fn is_panel(n: u8, j: u8) -> bool
+    ensures { λ r. ⌜ r ≡ isPanel n j ⌝ }
+{
+    both(1 <= j, j <= n)
+}
+
+// One place: its numbers and those of the panel itself, its hold and its line; whether the place is past n, and the panel's own.
+fn place_with(
+    wj: u8,
+    wi: u8,
+    rj: u8,
+    ri: u8,
+    h: Hold,
+    l: Line,
+    at_writer: bool,
+    past: bool,
+    own: bool,
+) -> bool
+    ensures { λ r. ⌜ r ≡ placeWith wj wi rj ri h l «at_writer» past own ⌝ }
+{
+    let hold = tables::hold_ok(h, wj, wi, at_writer);
+    let line = tables::line_ok(l, wj, wi);
+    let quiet = tables::quiet_ok(h, l);
+    let idle = choose(choose(past, true, own), quiet, true);
+    let zero = choose(past, both(wj == 0, rj == 0), true);
+    both(
+        wj <= wi,
+        both(rj <= ri, both(hold, both(line, both(idle, zero)))),
+    )
+}
+
+fn place_ok(p: Tables, j: usize) -> bool
+    requires { ⌜ (j < 7) × Sized p ⌝ }
+    ensures { λ r. ⌜ r ≡ placeOk p j ⌝ }
+{
+    let i = wide(p.number) - 1;
+    let wj = p.w[j].0;
+    let wi = p.w[i].0;
+    let rj = p.r[j].0;
+    let ri = p.r[i].0;
+    let h = p.held[j];
+    let l = p.lines[j];
+    let past = wide(p.n) <= j;
+    let own = j + 1 == wide(p.number);
+    place_with(wj, wi, rj, ri, h, l, p.number == p.writer, past, own)
+}
+
+fn places_ok(p: Tables) -> bool
+    requires { ⌜ Sized p ⌝ }
+    ensures { λ r. ⌜ r ≡ allBelow 7 (placeOk p) ⌝ }
+{
+    let mut ok = true;
+    let mut j = 0;
+    while j < 7 {
+        let e = place_ok(p, j);
+        ok = both(ok, e);
+        j += 1;
+    }
+    ok
+}
+
+fn operation_ok(o: Operation, at_writer: bool, x: u8, y: u8) -> bool
+    ensures { λ r. ⌜ r ≡ operationOk o «at_writer» x y ⌝ }
+{
+    match o {
+        Operation::Idle => true,
+        Operation::Writing => both(at_writer, 1 <= x),
+        Operation::FirstWait => 1 <= y,
+        Operation::SecondWait(sn) => both(1 <= y, sn.0 <= x),
+    }
+}
+
+pub fn in_form(p: Tables) -> bool
+    ensures { λ r. ⌜ r ≡ inForm p ⌝ }
+{
+    if !fits(p.n, p.t, p.writer) {
+        return false;
+    }
+    if !is_panel(p.n, p.number) {
+        return false;
+    }
+    let i = wide(p.number) - 1;
+    let wi = p.w[i].0;
+    let ri = p.r[i].0;
+    let h = p.history;
+    let o = p.operation;
+    let places = places_ok(p);
+    let history = tables::history_ok(h, wi);
+    let operation = operation_ok(o, p.number == p.writer, wi, ri);
+    both(
+        wi <= 200,
+        both(ri <= 100, both(places, both(history, operation))),
+    )
+}
+
+fn empty_line() -> Line
+    ensures { λ r. ⌜ r ≡ emptyLine ⌝ }
+{
+    Line {
+        len: 0,
+        sn: [WriteNo(0); 100],
+    }
+}
+
+pub fn fresh(n: u8, t: u8, writer: u8, number: u8, initial: u32) -> Tables
+    ensures { λ r. ⌜ r ≡ fresh n t writer number initial ⌝ }
+{
+    let mut history = [0u32; 201];
+    history[0] = initial;
+    let hold = Hold {
+        full: false,
+        value: 0,
+    };
+    Tables {
+        n,
+        t,
+        writer,
+        number,
+        w: [WriteNo(0); 7],
+        r: [ReadNo(0); 7],
+        history,
+        held: [hold; 7],
+        lines: [empty_line(); 7],
+        operation: Operation::Idle,
+    }
+}

@@ -1,0 +1,28 @@
+-- What a panel's calls come to, for their code.
+-- Assumes nothing.
+use mathlib.Core.Path.{_≡_, sym, ap, _∙_}
+use Prim.Native.Nat.{ℕ}
+use Rattle.messages.specs.Area.{Area, Laid, laying, roomOf}
+use Rattle.form.specs.declared.Tables.{Tables}
+use Rattle.refusals.specs.Refusals.{Event}
+use Rattle.events.specs.declared.Done.{Done}
+use Rattle.events.specs.Events.{happens}
+use Rattle.panel.specs.declared.Panel.{Panel}
+use Rattle.panel.specs.declared.Next.{Next}
+use Rattle.panel.specs.Calls.{Called, panelOf, nextOf, after, told, called}
+
+pub told-as :
+    (d : Done) (a : Area) (laid : Laid) → laid ≡ laying (d .sends) a →
+    record { outcome = record { panel = panelOf (d .tables); answer = d .answer; count = laid .count }; area = laid .area } ≡ told d a
+unfolding told laying
+told-as d a laid e =
+    ap (λ (l : Laid). record { outcome = record { panel = panelOf (d .tables); answer = d .answer; count = l .count }; area = l .area }) e
+
+pub called-as :
+    (p : Panel) (e : Event) (a : Area) (room : ℕ) (d : Done) (c : Called) → room ≡ roomOf a → d ≡ happens (p .tables) room e → c ≡ told d a → c ≡ called p e a
+unfolding called
+called-as p e a room d c r h t = t ∙ ap (λ (x : Done). told x a) (h ∙ ap (λ (n : ℕ). happens (p .tables) n e) r)
+
+pub after-as : (p : Panel) (e : Event) (d : Done) (q : Next) → d ≡ happens (p .tables) 107 e → q ≡ nextOf d → q ≡ after p e
+unfolding after
+after-as p e d q h n = n ∙ ap nextOf h

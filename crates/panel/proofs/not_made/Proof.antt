@@ -1,0 +1,15 @@
+-- `panel::not_made` meets its contract. Assumes nothing.
+use borrow.Author.Needs.{needs}
+use Rattle.panel.proofs.not_made.Statement.{statement}
+use Rattle.panel.proofs.not_made.Tie as tie
+use Rattle.panel.specs.Calls.{nothing}
+
+fresh-requires : tie.Need-fresh-requires
+fresh-requires c κs = search needs
+
+returns : tie.Need-returns
+unfolding nothing
+returns c = simp (c .fresh .ensures)
+
+pub not-made-spec : {M : Type 1} → statement M
+not-made-spec = tie.close (tie.spec fresh-requires returns)
