@@ -1,2 +1,3 @@
 pub mod Sends
 pub mod Area
+pub mod Tally

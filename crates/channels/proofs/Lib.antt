@@ -1,0 +1,10 @@
+pub mod ByKind
+pub mod Flying
+pub mod Posting
+pub mod Rows
+pub mod Posts
+pub mod Values
+pub mod ChannelForm
+pub mod RowForm
+pub mod Cases
+pub mod Outcomes

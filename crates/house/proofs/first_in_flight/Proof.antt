@@ -1,0 +1,156 @@
+-- `house::first_in_flight` meets its contract. Assumes nothing.
+use Prim.Native.Nat.{_≤_, _-_}
+use borrow.Author.Needs.{needs}
+use mathlib.Core.Path.{_≡_, refl, sym, _∙_}
+use native.Mathlib.Omega.{arith}
+use Rattle.house.proofs.Turns.{first-none, first-next, pair-none, sender-none, all-none, spot-miss, hit-is}
+use Rattle.house.proofs.first_in_flight.Statement.{statement}
+use Rattle.house.proofs.first_in_flight.Tie as tie
+use Rattle.house.specs.Search.{nowhere, firstBelow, spotAt, ofPair, ofSender}
+
+abbrev Inv-loop2 : tie.InvT-loop2
+Inv-loop2 s at₀ from row to c down kind₀ at kind = (kind ≤ 4) × (at ≡ nowhere) × (firstBelow kind (spotAt s from to) ≡ nowhere)
+
+abbrev μ-loop2 : tie.MeasureT-loop2
+μ-loop2 s at₀ from row to c down kind₀ at kind = 4 - kind
+
+abbrev Inv-loop : tie.InvT-loop
+Inv-loop s at₀ from row to₀ at to = (to ≤ 7) × (at ≡ nowhere) × (firstBelow to (ofPair s from) ≡ nowhere)
+
+abbrev μ-loop : tie.MeasureT-loop
+μ-loop s at₀ from row to₀ at to = 7 - to
+
+abbrev Inv-search : tie.InvT-search
+Inv-search s at₀ from₀ at from = (from ≤ 7) × (at ≡ nowhere) × (firstBelow from (ofSender s) ≡ nowhere)
+
+abbrev μ-search : tie.MeasureT-search
+μ-search s at₀ from₀ at from = 7 - from
+
+search-holds : tie.Need-search-holds Inv-loop2 μ-loop2 Inv-loop μ-loop Inv-search μ-search
+search-holds c = (search needs, refl, first-none _)
+
+mul-row : tie.Need-mul-row Inv-loop2 μ-loop2 Inv-loop μ-loop Inv-search μ-search
+mul-row c = search needs
+
+element-copy-out-row :
+    tie.Need-element-copy-out-row Inv-loop2 μ-loop2 Inv-loop μ-loop Inv-search μ-search
+element-copy-out-row c = search needs
+
+loop-holds : tie.Need-loop-holds Inv-loop2 μ-loop2 Inv-loop μ-loop Inv-search μ-search
+loop-holds c = (search needs, c .before .before .search .inv .1, first-none _)
+
+mul-c : tie.Need-mul-c Inv-loop2 μ-loop2 Inv-loop μ-loop Inv-search μ-search
+mul-c c = search needs
+
+element-copy-out-c :
+    tie.Need-element-copy-out-c Inv-loop2 μ-loop2 Inv-loop μ-loop Inv-search μ-search
+element-copy-out-c c = search needs
+
+element-copy-out-down :
+    tie.Need-element-copy-out-down Inv-loop2 μ-loop2 Inv-loop μ-loop Inv-search μ-search
+element-copy-out-down c = search needs
+
+loop2-holds : tie.Need-loop2-holds Inv-loop2 μ-loop2 Inv-loop μ-loop Inv-search μ-search
+loop2-holds c = (search needs, c .before .before .before .loop .inv .1, first-none _)
+
+has-requires : tie.Need-has-requires Inv-loop2 μ-loop2 Inv-loop μ-loop Inv-search μ-search
+has-requires c κs = search needs
+
+hit-requires : tie.Need-hit-requires Inv-loop2 μ-loop2 Inv-loop μ-loop Inv-search μ-search
+hit-requires c κs = search needs
+
+add-t24 : tie.Need-add-t24 Inv-loop2 μ-loop2 Inv-loop μ-loop Inv-search μ-search
+add-t24 c = search needs
+
+cast-t25 : tie.Need-cast-t25 Inv-loop2 μ-loop2 Inv-loop μ-loop Inv-search μ-search
+cast-t25 c = search needs
+
+add-t26 : tie.Need-add-t26 Inv-loop2 μ-loop2 Inv-loop μ-loop Inv-search μ-search
+add-t26 c = search needs
+
+cast-t27 : tie.Need-cast-t27 Inv-loop2 μ-loop2 Inv-loop μ-loop Inv-search μ-search
+cast-t27 c = search needs
+
+add-kind : tie.Need-add-kind Inv-loop2 μ-loop2 Inv-loop μ-loop Inv-search μ-search
+add-kind c = search needs
+
+loop2-less : tie.Need-loop2-less Inv-loop2 μ-loop2 Inv-loop μ-loop Inv-search μ-search
+loop2-less c = search needs
+
+loop2-again : tie.Need-loop2-again Inv-loop2 μ-loop2 Inv-loop μ-loop Inv-search μ-search
+loop2-again c =
+    let kinds = c .before .before .before .before in (
+      search needs,
+      kinds .loop2 .inv .1,
+      first-next _ _ (kinds .loop2 .inv .2) (spot-miss _ _ _ _ (c .before .before .has .ensures) (c .before .hit .ensures) (c .if1 .left)),
+    )
+
+add-to : tie.Need-add-to Inv-loop2 μ-loop2 Inv-loop μ-loop Inv-search μ-search
+add-to c = search needs
+
+loop-less : tie.Need-loop-less Inv-loop2 μ-loop2 Inv-loop μ-loop Inv-search μ-search
+loop-less c = search needs
+
+loop-again : tie.Need-loop-again Inv-loop2 μ-loop2 Inv-loop μ-loop Inv-search μ-search
+loop-again c = let e : c .before .loop2 .kind ≡ 4 = omega arith in
+    (search needs, c .before .loop2 .inv .1, first-next _ _ (c .before .before .before .before .before .loop .inv .2) (pair-none _ _ _ e (c .before .loop2 .inv .2)))
+
+add-from : tie.Need-add-from Inv-loop2 μ-loop2 Inv-loop μ-loop Inv-search μ-search
+add-from c = search needs
+
+search-less : tie.Need-search-less Inv-loop2 μ-loop2 Inv-loop μ-loop Inv-search μ-search
+search-less c = search needs
+
+search-again : tie.Need-search-again Inv-loop2 μ-loop2 Inv-loop μ-loop Inv-search μ-search
+search-again c = let e : c .before .loop .to ≡ 7 = omega arith in
+    (search needs, c .before .loop .inv .1, first-next _ _ (c .before .before .before .before .search .inv .2) (sender-none _ _ e (c .before .loop .inv .2)))
+
+returns : tie.Need-returns Inv-loop2 μ-loop2 Inv-loop μ-loop Inv-search μ-search
+returns c = let e : c .before .search .from ≡ 7 = omega arith in
+    c .before .search .inv .1 ∙ sym (all-none _ e (c .before .search .inv .2))
+
+returns-2 : tie.Need-returns-2 Inv-loop2 μ-loop2 Inv-loop μ-loop Inv-search μ-search
+returns-2 c =
+    let kinds = c .before .before .before .before in
+    let receivers = kinds .before .before .before .before in
+    let senders = receivers .before .before .before in
+    sym
+    (hit-is (senders .before .args .t1) (senders .search .from) (receivers .loop .to) (kinds .loop2 .kind) (c .before .before .has .ensures)
+    (c .before .hit .ensures) (receivers .before .before .search-test .taken) (kinds .before .before .before .loop-test .taken)
+    (c .before .before .before .loop2-test .taken) (senders .search .inv .2) (receivers .loop .inv .2) (kinds .loop2 .inv .2) (c .if1 .taken))
+
+pub first-in-flight-spec : {M : Type 1} → statement M
+first-in-flight-spec =
+    tie.close
+    (tie.spec
+    Inv-loop2
+    μ-loop2
+    Inv-loop
+    μ-loop
+    Inv-search
+    μ-search
+    search-holds
+    mul-row
+    element-copy-out-row
+    loop-holds
+    mul-c
+    element-copy-out-c
+    element-copy-out-down
+    loop2-holds
+    has-requires
+    hit-requires
+    add-t24
+    cast-t25
+    add-t26
+    cast-t27
+    add-kind
+    loop2-less
+    loop2-again
+    add-to
+    loop-less
+    loop-again
+    add-from
+    search-less
+    search-again
+    returns
+    returns-2)

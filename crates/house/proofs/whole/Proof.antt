@@ -1,0 +1,29 @@
+-- `house::whole` meets its contract. Assumes nothing.
+use borrow.Author.Needs.{needs}
+use lib.ListN.{length-map}
+use mathlib.Core.Path.{refl, sym, _∙_}
+use Rattle.house.proofs.whole.Statement.{statement}
+use Rattle.house.proofs.whole.Tie as tie
+use Rattle.house.specs.Whole.{Whole}
+
+panels-shaped-requires : tie.Need-panels-shaped-requires
+panels-shaped-requires c κs = search needs
+
+rows-long-requires : tie.Need-rows-long-requires
+rows-long-requires c κs = search needs
+
+returns : tie.Need-returns
+returns c =
+    let start = c .before .before in
+    let lengths : Whole (start .args .s)
+    = record {
+      panels-long = sym (length-map (start .args .s .panels) _) ∙ start .good .0 .1 .1 .0 .1 .0 .1;
+      rows-long = sym (length-map (start .args .s .rows) _) ∙ start .good .0 .1 .1 .1 .0 .1 .0 .1;
+      down-long = sym (length-map (start .args .s .down) _) ∙ start .good .0 .1 .1 .1 .1 .0 .1 .0 .1;
+      panel-shaped = c .before .panels-shaped .ensures;
+      row-long = c .rows-long .ensures;
+    } in
+    (refl, lengths)
+
+pub whole-spec : {M : Type 1} → statement M
+whole-spec = tie.close (tie.spec panels-shaped-requires rows-long-requires returns)

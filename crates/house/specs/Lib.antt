@@ -1,0 +1,4 @@
+pub mod Places
+pub mod NetForm
+pub mod Search
+pub mod Whole

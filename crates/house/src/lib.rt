@@ -1,0 +1,312 @@
+// The tables of a network: its panels, the channels between them, and which panels are down. Whether it is in form, and the first
+// message in flight to a live panel. Every call here takes any network and any numbers.
+ghost use mathlib.Core.Path.{_≡_};
+ghost use mathlib.Core.Bool.{true, not};
+ghost use Prim.Native.Nat.{ℕ, _≤_, _<_};
+ghost use lib.ListN.{length};
+ghost use Rattle.basics.specs.Choice.{both};
+ghost use Rattle.basics.specs.Below.{allBelow, oneIf};
+ghost use Rattle.form.proofs.Shape.{Shaped};
+ghost use Rattle.unused.specs.Unused.{unused};
+ghost use Rattle.channels.specs.Channels.{noChannel};
+ghost use Rattle.house.specs.Places.{downAt, rowAt, tablesAt, channelOf, withPanel, withRow, withDown};
+ghost use Rattle.house.specs.NetForm.{memberWith, placeOk, channelsOk, downs, mayBeDown, netForm};
+ghost use Rattle.house.specs.Search.{firstIn};
+ghost use Rattle.house.specs.Whole.{Whole};
+use channels::Channel;
+use channels::Row;
+use form::Tables;
+use panel::Panel;
+use tables::Hold;
+use tables::Line;
+use tables::both;
+use tables::wide;
+
+// Place 0 is panel 1; a row holds the channels that leave its panel.
+pub struct Network {
+    pub panels: [Panel; 7],
+    pub rows: [Row; 7],
+    pub down: [bool; 7],
+}
+
+// A message in flight, by the numbers of its two panels and its kind, or none.
+pub struct Found {
+    pub any: bool,
+    pub sender: u8,
+    pub receiver: u8,
+    pub kind: u8,
+}
+
+// ---- in form
+
+fn member_ok(p: Panel, n: u8, t: u8, writer: u8, initial: u32, number: u8) -> bool
+    ensures { λ r. ⌜ r ≡ memberWith (p .tables) n t writer initial number ⌝ }
+{
+    let form = p.in_form();
+    let q = p.tables;
+    both(
+        form,
+        both(
+            q.n == n,
+            both(
+                q.t == t,
+                both(
+                    q.writer == writer,
+                    both(q.history[0] == initial, q.number == number),
+                ),
+            ),
+        ),
+    )
+}
+
+fn nothing_at(p: Panel, down: bool) -> bool
+    ensures { λ r. ⌜ r ≡ both (unused (p .tables)) (not down) ⌝ }
+{
+    let q = p.tables;
+    both(unused::unused(q), !down)
+}
+
+fn place_ok(s: Network, i: usize) -> bool
+    requires { ⌜ i < 7 ⌝ }
+    ensures { λ r. ⌜ r ≡ placeOk s i ⌝ }
+{
+    let first = s.panels[0];
+    let f = first.tables;
+    let p = s.panels[i];
+    if i < wide(f.n) {
+        return member_ok(p, f.n, f.t, f.writer, f.history[0], (i + 1) as u8);
+    }
+    nothing_at(p, s.down[i])
+}
+
+fn places_ok(s: Network) -> bool
+    ensures { λ r. ⌜ r ≡ allBelow 7 (placeOk s) ⌝ }
+{
+    let mut ok = true;
+    let mut i = 0;
+    while i < 7 {
+        ok = both(ok, place_ok(s, i));
+        i += 1;
+    }
+    ok
+}
+
+fn rows_ok(s: Network) -> bool
+    ensures { λ r. ⌜ r ≡ allBelow 7 (channelsOk s) ⌝ }
+{
+    let first = s.panels[0];
+    let f = first.tables;
+    let n = f.n;
+    let mut ok = true;
+    let mut i = 0;
+    while i < 7 {
+        let row = s.rows[i];
+        ok = both(ok, channels::row_ok(row, n, i));
+        i += 1;
+    }
+    ok
+}
+
+// How many panels are down.
+pub fn downs(s: Network) -> usize
+    ensures { λ r. ⌜ (r ≡ downs s) × (r ≤ 7) ⌝ }
+{
+    let down = s.down;
+    let mut m = 0;
+    let mut i = 0;
+    while i < 7 {
+        m += one_if(down[i]);
+        i += 1;
+    }
+    m
+}
+
+// Whether m panels may be down at once.
+pub fn may_be_down(t: u8, m: usize) -> bool
+    ensures { λ r. ⌜ r ≡ mayBeDown t m ⌝ }
+{
+    m <= wide(t)
+}
+
+pub fn in_form(s: Network) -> bool
+    ensures { λ r. ⌜ r ≡ netForm s ⌝ }
+{
+    let first = s.panels[0];
+    let f = first.tables;
+    let rows = rows_ok(s);
+    let few = may_be_down(f.t, downs(s));
+    let places = places_ok(s);
+    both(1 <= f.n, both(places, both(few, rows)))
+}
+
+fn one_if(b: bool) -> usize
+    ensures { λ r. ⌜ (r ≡ oneIf b) × (r ≤ 1) ⌝ }
+{
+    if b { 1 } else { 0 }
+}
+
+// ---- places
+
+pub fn down_at(s: Network, i: usize) -> bool
+    ensures { λ r. ⌜ r ≡ downAt s i ⌝ }
+{
+    if i < 7 { s.down[i] } else { false }
+}
+
+fn no_channel() -> Channel
+    ensures { λ c. ⌜ c ≡ noChannel ⌝ }
+{
+    let write0 = Hold {
+        full: false,
+        value: 0,
+    };
+    let write1 = Hold {
+        full: false,
+        value: 0,
+    };
+    Channel {
+        write0,
+        write1,
+        reads: 0,
+        proceeds: 0,
+    }
+}
+
+// The channel from place i to place j; an empty one where there is none.
+pub fn channel_of(s: Network, i: usize, j: usize) -> Channel
+    ensures { λ c. ⌜ c ≡ channelOf s i j ⌝ }
+{
+    if i < 7 {
+        let row = s.rows[i];
+        return channels::channel_to(row, j);
+    }
+    no_channel()
+}
+
+pub fn with_panel(s: Network, i: usize, p: Panel) -> Network
+    ensures { λ r. ⌜ r ≡ withPanel s i p ⌝ }
+{
+    let mut q = s;
+    if i < 7 {
+        q.panels[i] = p;
+    }
+    q
+}
+
+pub fn with_row(s: Network, i: usize, row: Row) -> Network
+    ensures { λ r. ⌜ r ≡ withRow s i row ⌝ }
+{
+    let mut q = s;
+    if i < 7 {
+        q.rows[i] = row;
+    }
+    q
+}
+
+pub fn with_down(s: Network, i: usize) -> Network
+    ensures { λ r. ⌜ r ≡ withDown s i ⌝ }
+{
+    let mut q = s;
+    if i < 7 {
+        q.down[i] = true;
+    }
+    q
+}
+
+// ---- the search
+
+fn hit(down: bool, there: bool) -> bool
+    ensures { λ r. ⌜ r ≡ both (not down) there ⌝ }
+{
+    both(!down, there)
+}
+
+// The first message in flight to a live panel, by sender, then receiver, then kind.
+pub fn first_in_flight(s: Network) -> Found
+    ensures { λ r. ⌜ r ≡ firstIn s ⌝ }
+{
+    let mut at = Found {
+        any: false,
+        sender: 0,
+        receiver: 0,
+        kind: 0,
+    };
+    let mut from = 0;
+    'search: while from < 7 {
+        let row = s.rows[from];
+        let mut to = 0;
+        while to < 7 {
+            let c = row.to[to];
+            let down = s.down[to];
+            let mut kind = 0;
+            while kind < 4 {
+                if hit(down, channels::has(c, kind)) {
+                    at = Found {
+                        any: true,
+                        sender: (from + 1) as u8,
+                        receiver: (to + 1) as u8,
+                        kind,
+                    };
+                    break 'search;
+                }
+                kind += 1;
+            }
+            to += 1;
+        }
+        from += 1;
+    }
+    at
+}
+
+// ---- lengths, which the arrays' types give
+
+fn line_long(l: Line)
+    ensures { λ _. ⌜ length (l .sn) ≡ 100 ⌝ }
+{}
+
+fn shaped(p: Tables)
+    ensures { λ _. ⌜ Shaped p ⌝ }
+{
+    let mut j = 0;
+    while j < 7 {
+        let l = p.lines[j];
+        line_long(l);
+        j += 1;
+    }
+}
+
+fn panels_shaped(s: Network)
+    ensures { λ _. ⌜ ((i : ℕ) → i < 7 → Shaped (tablesAt s i)) ⌝ }
+{
+    let mut i = 0;
+    while i < 7 {
+        let p = s.panels[i];
+        let t = p.tables;
+        shaped(t);
+        i += 1;
+    }
+}
+
+fn row_long(r: Row)
+    ensures { λ _. ⌜ length (r .to) ≡ 7 ⌝ }
+{}
+
+fn rows_long(s: Network)
+    ensures { λ _. ⌜ ((i : ℕ) → i < 7 → length (rowAt s i .to) ≡ 7) ⌝ }
+{
+    let mut i = 0;
+    while i < 7 {
+        let row = s.rows[i];
+        row_long(row);
+        i += 1;
+    }
+}
+
+// Does nothing: its contract hands on what the types say.
+pub fn whole(s: Network) -> bool
+    ensures { λ r. ⌜ (r ≡ true) × Whole s ⌝ }
+{
+    panels_shaped(s);
+    rows_long(s);
+    true
+}

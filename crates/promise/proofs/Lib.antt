@@ -1,0 +1,15 @@
+pub mod Ones
+pub mod Tallies
+pub mod Receivers
+pub mod Dues
+pub mod TakesOne
+pub mod TakesAll
+pub mod Starting
+pub mod Coming
+pub mod AfterLook
+pub mod Settings
+pub mod Numbers
+pub mod Answers
+pub mod Happenings
+pub mod AfterEvents
+pub mod AtPlace

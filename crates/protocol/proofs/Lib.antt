@@ -1,0 +1,17 @@
+pub mod Sums
+pub mod Pairs
+pub mod Arriving
+pub mod Around
+pub mod Coming
+pub mod TakingOne
+pub mod KeepingWrites
+pub mod KeepingReads
+pub mod Never
+pub mod Room
+pub mod Quiet
+pub mod Deliveries
+pub mod Steps
+pub mod Loads
+pub mod Falling
+pub mod AtFirst
+pub mod WouldBe

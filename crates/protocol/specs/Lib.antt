@@ -1,0 +1,5 @@
+pub mod World
+pub mod Promise
+pub mod Invariant
+pub mod Counts
+pub mod Would

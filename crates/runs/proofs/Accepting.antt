@@ -1,0 +1,46 @@
+-- "Each message in flight to a powered panel is accepted when delivered." And a start is accepted where the panel accepts it.
+-- Assumes nothing.
+use Prim.Native.Nat.{ℕ, suc, _+_, _-_, _≤_, _<_}
+use mathlib.Core.Path.{_≡_, refl, sym, ap, subst, _∙_}
+use mathlib.Core.Bool.{Bool, true, false, not}
+use mathlib.Core.Logic.{_≢_}
+use native.Mathlib.Omega.{arith}
+use Rattle.refusals.specs.Refusals.{refusal}
+use Rattle.refusals.specs.Refusals.Event.{write, read}
+use Rattle.promise.specs.View.{codeOf}
+use Rattle.channels.specs.Channels.{has}
+use Rattle.house.specs.declared.Network.{Network}
+use Rattle.house.specs.Places.{tablesAt, channelOf, downAt, nOf, writerOf}
+use Rattle.house.specs.Search.{live, firstIn}
+use Rattle.house.proofs.Searching.{Hits, found, found-pair}
+use Rattle.steps.specs.Steps.{writeIn, readIn, deliverIn, delivered}
+use Rattle.steps.specs.Drain.{nextIn}
+use Rattle.steps.proofs.Networks.{Good, good-test}
+use Rattle.steps.proofs.Settling.{checked-in-form}
+use Rattle.steps.proofs.Passing.{MayWrite, MayRead, MayDeliver}
+use Rattle.steps.proofs.Accepting.{write-accepted, read-accepted, deliver-accepted}
+use Rattle.runs.proofs.Holding.{Holds}
+use Rattle.runs.proofs.Taking.{message-taken}
+use Rattle.runs.proofs.Sparing.{write-spare, read-spare, deliver-spare}
+
+module _ (s : Network) (h : Holds s) where
+  pub write-ok : (v : ℕ) → MayWrite s → refusal (tablesAt s (writerOf s - 1)) 107 (write v) ≡ 0 → codeOf (writeIn s v .answer) ≡ 0
+  write-ok v m z = write-accepted s (h .good) v m z (record { spare = write-spare s h v z })
+
+  pub read-ok : (i : ℕ) → MayRead s i → refusal (tablesAt s (i - 1)) 107 read ≡ 0 → codeOf (readIn s i .answer) ≡ 0
+  read-ok i m z = read-accepted s (h .good) i m z (record { spare = read-spare s h i (omega (arith, m .low, m .high)) z })
+
+  pub deliver-ok : (k i j : ℕ) → MayDeliver s k i j → codeOf (deliverIn s k i j .answer) ≡ 0
+  deliver-ok k i j m = deliver-accepted s (h .good) k i j m (message-taken s h k i j m) (record { spare = deliver-spare s h k i j m })
+
+  -- what the search finds
+  pub next-ok : firstIn s .any ≡ true → codeOf (nextIn s .answer) ≡ 0
+  unfolding nextIn live
+  next-ok e =
+      let f : Hits s (firstIn s) = found s e in
+      deliver-ok (firstIn s .kind) (firstIn s .sender) (firstIn s .receiver)
+      (record { pair = found-pair s (h .good .form) e; live = powered _ (f .receiver-live); there = f .in-flight })
+    where
+      powered : (b : Bool) → not b ≡ true → b ≡ false
+      powered true e = sym e
+      powered false e = refl

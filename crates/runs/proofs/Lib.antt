@@ -1,0 +1,9 @@
+pub mod Holding
+pub mod Taking
+pub mod Sparing
+pub mod Quieting
+pub mod Accepting
+pub mod Stepping
+pub mod Draining
+pub mod Running
+pub mod FromFresh

@@ -1,0 +1,16 @@
+pub mod Networks
+pub mod SentOut
+pub mod Settling
+pub mod Passing
+pub mod Keeping
+pub mod Arriving
+pub mod Taking
+pub mod Moves
+pub mod Delivering
+pub mod Falling
+pub mod Draining
+pub mod WholeDrain
+pub mod Powers
+pub mod Accepting
+pub mod Refusing
+pub mod AtStart

@@ -1,0 +1,5 @@
+pub mod Decimal
+pub mod Appending
+pub mod Lines
+pub mod Cases
+pub mod Outcomes
