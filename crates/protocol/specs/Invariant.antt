@@ -22,11 +22,11 @@ abbrev pub none : ℕ → ℕ → ℕ
 none i j = 0
 
 pub record Inv (n writer : ℕ) (hand : ℕ → ℕ → ℕ) (s : World) : Type 0 where
-  -- Lemma 2: nobody is known to be further than the panel itself
+  -- Lemma 3 of the report: a panel's own number is the greatest that it knows
   pub own : (i j : ℕ) → i < n → j < n → W s i j ≤ W s i i
-  -- Lemma 3: nobody is further than the writer
+  -- nobody is further than the writer
   pub top : (i : ℕ) → i < n → W s i i ≤ W s writer writer
-  -- Lemma 5 and the properties P1 and P2: what was sent is taken, in flight or held, each once
+  -- Lemmas 2 and 5 and the properties P1 and P2: what was sent is taken, in flight or held, each once
   pub pair : (i j : ℕ) → i < n → j < n → i ≢ j → PairOf s hand i j
   -- each read of i is on its way to j, waits at j, is on its way back, or was answered
   pub reads : (i j : ℕ) → i < n → j < n → i ≢ j → R s i i ≡ s .flying i j 2 + s .panel j .waiting i + s .flying j i 3 + R s i j

@@ -29,7 +29,7 @@ use Rattle.steps.proofs.Settling.{checked-in-form}
 use Rattle.steps.proofs.AtStart.{start-good, start-n, start-writer, start-waits, start-fresh}
 use Rattle.runs.specs.Runs.{Step, does, after, entries, writes, reads, deliveries}
 use Rattle.runs.specs.Runs.Step.{drain}
-use Rattle.runs.specs.Claims.{Still, AllOrdinary}
+use Rattle.runs.specs.Claims.{Still, AllOrdinary, mostDeliveries}
 use Rattle.runs.proofs.Holding.{Holds, Went}
 use Rattle.runs.proofs.Accepting.{deliver-ok}
 use Rattle.runs.proofs.Quieting.{quiet-idle}
@@ -84,40 +84,36 @@ module _ (n t writer v : ℕ) (ok : fits n t writer ≡ true) where
     pub never-refused-so : AllOrdinary (entries start es)
     never-refused-so = run .ordinary
 
+    -- the counts by the tables are the counts by the answers
+    abbrev a : ℕ
+    a = writes (entries start es)
+
+    abbrev r : ℕ
+    r = reads (entries start es)
+
+    abbrev number : ℕ
+    number = W (worldOf end) (writerOf end - 1) (writerOf end - 1)
+
+    all-written : number ≡ a
+    all-written =
+        let b : writerOf start - 1 < n = subst (λ (m : ℕ). writerOf start - 1 < m) (start-n n t writer v ok) (writer-place start (start-holds .good)) in
+        omega (arith, run .went .written, fresh .w (writerOf start - 1) (writerOf start - 1) b b)
+
+    all-asked : counts.begun (nOf end) (worldOf end) ≡ r
+    all-asked = omega (arith, run .went .asked, ap (λ (m : ℕ). counts.begun m (worldOf start)) (start-n n t writer v ok) ∙ fresh-begun fresh)
+
+    all-made : counts.made (nOf end) (worldOf end) ≡ deliveries (entries start es)
+    all-made = omega (arith, run .went .came, ap (λ (m : ℕ). counts.made m (worldOf start)) (start-n n t writer v ok) ∙ fresh-made fresh)
+
     -- 2: "at most a·n·(n−1) + 2·r·(n−1) deliveries are ever accepted"
-    pub deliveries-bound :
-        deliveries (entries start es) ≤ writes (entries start es) * (n * (n - 1)) + 2 * (reads (entries start es) * (n - 1))
-    deliveries-bound = bounded
-      where
-        first-w : W (worldOf start) (writerOf start - 1) (writerOf start - 1) ≡ 0
-        first-w =
-            let b : writerOf start - 1 < n = subst (λ (m : ℕ). writerOf start - 1 < m) (start-n n t writer v ok) (writer-place start (start-holds .good)) in
-            fresh .w (writerOf start - 1) (writerOf start - 1) b b
-
-        first-begun : counts.begun (nOf start) (worldOf start) ≡ 0
-        first-begun = ap (λ (m : ℕ). counts.begun m (worldOf start)) (start-n n t writer v ok) ∙ fresh-begun fresh
-
-        first-made : counts.made (nOf start) (worldOf start) ≡ 0
-        first-made = ap (λ (m : ℕ). counts.made m (worldOf start)) (start-n n t writer v ok) ∙ fresh-made fresh
-
-        a : W (worldOf end) (writerOf end - 1) (writerOf end - 1) ≡ writes (entries start es)
-        a = omega (arith, run .went .written, first-w)
-
-        r : counts.begun (nOf end) (worldOf end) ≡ reads (entries start es)
-        r = omega (arith, run .went .asked, first-begun)
-
-        d : counts.made (nOf end) (worldOf end) ≡ deliveries (entries start es)
-        d = omega (arith, run .went .came, first-made)
-
-        most : counts.made (nOf end) (worldOf end) ≤ W (worldOf end) (writerOf end - 1) (writerOf end - 1) * (nOf end * (nOf end - 1)) + 2 * (counts.begun (nOf end) (worldOf end) * (nOf end - 1))
-        most = made-most (end-holds .inv)
-
-        bounded : deliveries (entries start es) ≤ writes (entries start es) * (n * (n - 1)) + 2 * (reads (entries start es) * (n - 1))
-        bounded =
-            subst (λ (x : ℕ). x ≤ writes (entries start es) * (n * (n - 1)) + 2 * (reads (entries start es) * (n - 1))) d
-            (subst (λ (x : ℕ). counts.made (nOf end) (worldOf end) ≤ x * (n * (n - 1)) + 2 * (reads (entries start es) * (n - 1))) a
-            (subst (λ (x : ℕ). counts.made (nOf end) (worldOf end) ≤ W (worldOf end) (writerOf end - 1) (writerOf end - 1) * (n * (n - 1)) + 2 * (x * (n - 1))) r
-            (subst (λ (m : ℕ). counts.made (nOf end) (worldOf end) ≤ W (worldOf end) (writerOf end - 1) (writerOf end - 1) * (m * (m - 1)) + 2 * (counts.begun (nOf end) (worldOf end) * (m - 1))) end-n most)))
+    pub deliveries-bound : deliveries (entries start es) ≤ mostDeliveries n (writes (entries start es)) (reads (entries start es))
+    unfolding mostDeliveries
+    deliveries-bound =
+        subst (λ (x : ℕ). x ≤ a * (n * (n - 1)) + 2 * (r * (n - 1))) all-made
+        (subst (λ (x : ℕ). counts.made (nOf end) (worldOf end) ≤ x * (n * (n - 1)) + 2 * (r * (n - 1))) all-written
+        (subst (λ (x : ℕ). counts.made (nOf end) (worldOf end) ≤ number * (n * (n - 1)) + 2 * (x * (n - 1))) all-asked
+        (subst (λ (m : ℕ). counts.made (nOf end) (worldOf end) ≤ number * (m * (m - 1)) + 2 * (counts.begun (nOf end) (worldOf end) * (m - 1))) end-n
+        (made-most (end-holds .inv)))))
 
     -- 3: "Whenever no message is in flight to a powered panel, no powered panel has an unfinished operation"
     pub quiet-is-idle : Still end → (i : ℕ) → i < n → live end i ≡ true → tablesAt end i .operation ≡ Idle

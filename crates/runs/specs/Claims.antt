@@ -1,6 +1,6 @@
 -- What is said of every run from fresh.
 -- Assumes nothing.
-use Prim.Native.Nat.{ℕ, _<_}
+use Prim.Native.Nat.{ℕ, _+_, _-_, _*_, _<_}
 use mathlib.Core.Path.{_≡_}
 use mathlib.Core.Bool.{true, false}
 use mathlib.Core.List.{List, [], _∷_}
@@ -27,3 +27,7 @@ pub record Ordinary (refusal : ℕ) : Type 0 where
 pub data AllOrdinary : List Entry → Type 0 where
   none : AllOrdinary []
   more : {x : Entry} {xs : List Entry} → Ordinary (x .refusal) → AllOrdinary xs → AllOrdinary (x ∷ xs)
+
+-- "With n panels, a writes and r reads accepted in all, at most a·n·(n−1) + 2·r·(n−1) deliveries are ever accepted"
+unfoldable pub mostDeliveries : ℕ → ℕ → ℕ → ℕ
+mostDeliveries n a r = a * (n * (n - 1)) + 2 * (r * (n - 1))

@@ -1,0 +1,4 @@
+pub mod Within
+pub mod Trials
+pub mod Along
+pub mod Outcomes
