@@ -34,7 +34,9 @@ module _ {s₀ s : Network} {m : ℕ} (a : Along s₀ s m) {f : Found} (found : 
   along-done e = sym (drain-done s₀ s m (a .good) (ap (λ (x : Found). x .any) (sym found) ∙ e)) ∙ a .rest
 
   -- o is what its delivery comes to, and k the number of the refusal
-  module _ (there : f .any ≡ true) {o : Stepped} (delivery : o ≡ deliverIn s (f .kind) (f .sender) (f .receiver)) {k : ℕ} (code : k ≡ codeOf (o .answer)) where
+  module _
+      (there : f .any ≡ true) {o : Stepped} (delivery : o ≡ deliverIn s (f .kind) (f .sender) (f .receiver))
+      {k : ℕ} (code : k ≡ codeOf (o .answer)) where
     any : firstIn s .any ≡ true
     any = ap (λ (x : Found). x .any) (sym found) ∙ there
 

@@ -132,8 +132,8 @@ fn with_taken(s: Network, kind: u8, i: u8, j: u8) -> Network
 fn with_both(s: Network, i: u8, p: Panel, r: Row) -> Network
     ensures { λ q. ⌜ q ≡ withRow (withPanel s (i - 1) p) (i - 1) r ⌝ }
 {
-    let at = place_of(i);
-    house::with_row(house::with_panel(s, at, p), at, r)
+    let place = place_of(i);
+    house::with_row(house::with_panel(s, place, p), place, r)
 }
 
 // ---- what a panel's event comes to
