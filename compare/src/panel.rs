@@ -177,7 +177,7 @@ pub fn happen(tables: &Tables, event: Event, area: &mut Area) -> Outcome {
 }
 
 /// A case, a number, and a value of four bytes.
-fn answer(told: &[u8]) -> Answer {
+pub(crate) fn answer(told: &[u8]) -> Answer {
     let value = u32::from_be_bytes(told[2..6].try_into().expect("four bytes"));
     match (told[0], told[1], value) {
         (0, number, 0) => Answer::Refused(number),

@@ -1,6 +1,6 @@
 -- Each contract of this crate allows one outcome.
 -- Assumes nothing.
-use mathlib.Core.Path.{sym, ap, _∙_}
+use mathlib.Core.Path.{refl, sym, ap, _∙_}
 use mathlib.Core.List.{List}
 use Prim.Native.Nat.{ℕ}
 use denote.Ref.{now}
@@ -33,6 +33,22 @@ use Rattle.compared.proofs.compared_panel_in_form.Kinds as panel-in-for
 use Rattle.compared.proofs.compared_panel_in_form.Reads as panel-in-form
 use Rattle.compared.proofs.compared_panel_set_up.Kinds as panel-set-up-kinds
 use Rattle.compared.proofs.compared_panel_set_up.Reads as panel-set-up
+use Rattle.compared.proofs.networks.compared_network_set_up.Kinds as network-set-up-kinds
+use Rattle.compared.proofs.networks.compared_network_set_up.Reads as network-set-up
+use Rattle.compared.proofs.networks.compared_network_in_form.Kinds as network-in-form-kinds
+use Rattle.compared.proofs.networks.compared_network_in_form.Reads as network-in-form
+use Rattle.compared.proofs.networks.compared_network_write.Kinds as network-write-kinds
+use Rattle.compared.proofs.networks.compared_network_write.Reads as network-write
+use Rattle.compared.proofs.networks.compared_network_read.Kinds as network-read-kinds
+use Rattle.compared.proofs.networks.compared_network_read.Reads as network-read
+use Rattle.compared.proofs.networks.compared_network_deliver.Kinds as network-deliver-kinds
+use Rattle.compared.proofs.networks.compared_network_deliver.Reads as network-deliver
+use Rattle.compared.proofs.networks.compared_network_lose_power.Kinds as network-lose-power-kinds
+use Rattle.compared.proofs.networks.compared_network_lose_power.Reads as network-lose-power
+use Rattle.compared.proofs.networks.compared_network_next_delivery.Kinds as network-next-delivery-kinds
+use Rattle.compared.proofs.networks.compared_network_next_delivery.Reads as network-next-delivery
+use Rattle.compared.proofs.networks.compared_network_drain.Kinds as network-drain-kinds
+use Rattle.compared.proofs.networks.compared_network_drain.Reads as network-drain
 
 pub read-refusal-only : OneResult 1 read-refusal-kinds.ps read-refusal-kinds.r read-refusal.Post
 read-refusal-only κs a x y e f p q = p ∙ sym q
@@ -89,3 +105,29 @@ panel-in-form-only κs a x y e f p q = p ∙ sym q
 
 pub panel-set-up-only : OneOutcome 1 panel-set-up-kinds.ps panel-set-up-kinds.r (λ κs e. now (e .1 .1 .1 .1 .1 .0)) panel-set-up.Post
 panel-set-up-only κs a x y e f p q = (p .0 ∙ sym (q .0), p .1 ∙ sym (q .1))
+
+-- ---- a network: the result, and what `out` holds afterwards
+
+pub network-set-up-only : OneOutcome 1 network-set-up-kinds.ps network-set-up-kinds.r (λ κs e. now (e .1 .1 .1 .1 .0)) network-set-up.Post
+network-set-up-only κs a x y e f p q = (p .0 ∙ sym (q .0), p .1 ∙ sym (q .1))
+
+pub network-in-form-only : OneResult 1 network-in-form-kinds.ps network-in-form-kinds.r network-in-form.Post
+network-in-form-only κs a x y e f p q = p ∙ sym q
+
+pub network-write-only : OneOutcome 2 network-write-kinds.ps network-write-kinds.r (λ κs e. now (e .1 .1 .0)) network-write.Post
+network-write-only κs a x y e f p q = (refl, p ∙ sym q)
+
+pub network-read-only : OneOutcome 2 network-read-kinds.ps network-read-kinds.r (λ κs e. now (e .1 .1 .0)) network-read.Post
+network-read-only κs a x y e f p q = (refl, p ∙ sym q)
+
+pub network-deliver-only : OneOutcome 2 network-deliver-kinds.ps network-deliver-kinds.r (λ κs e. now (e .1 .1 .1 .1 .0)) network-deliver.Post
+network-deliver-only κs a x y e f p q = (refl, p ∙ sym q)
+
+pub network-lose-power-only : OneOutcome 2 network-lose-power-kinds.ps network-lose-power-kinds.r (λ κs e. now (e .1 .1 .0)) network-lose-power.Post
+network-lose-power-only κs a x y e f p q = (refl, p ∙ sym q)
+
+pub network-next-delivery-only : OneOutcome 2 network-next-delivery-kinds.ps network-next-delivery-kinds.r (λ κs e. now (e .1 .0)) network-next-delivery.Post
+network-next-delivery-only κs a x y e f p q = (refl, p ∙ sym q)
+
+pub network-drain-only : OneOutcome 2 network-drain-kinds.ps network-drain-kinds.r (λ κs e. now (e .1 .0)) network-drain.Post
+network-drain-only κs a x y e f p q = (p .0 ∙ sym (q .0), p .1 ∙ sym (q .1))

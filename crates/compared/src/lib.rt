@@ -1,8 +1,12 @@
 // The proved calls, exported on numbers and byte slices for the comparison with the second program.
 //
-// A panel's call takes the tables as bytes (`carried`), and leaves in `out` the next panel and, behind it, the answer.
+// A panel's call takes the tables as bytes (`carried`), and leaves in `out` the next panel and, behind it, the answer. A network's
+// calls stand in networks.rt.
+mod networks;
+
 ghost use mathlib.Core.Path.{_≡_};
 ghost use mathlib.Core.Bool.{not};
+ghost use Prim.Native.Nat.{_<_};
 ghost use mathlib.Core.List.{_∷_};
 ghost use lib.Dec.{eqb};
 ghost use lib.Seq.{sets};
@@ -109,22 +113,24 @@ fn panel_of(bytes: &[u8]) -> Panel
     }
 }
 
-fn put_told(case: u8, number: u8, value: u32, out: &mut [u8])
-    ensures { λ _. ⌜ Laid (now (out .entry)) 1566 («case» ∷ number ∷ bytesOf 4 value) (now (out .exit)) ⌝ }
+fn put_told(case: u8, number: u8, value: u32, at: usize, out: &mut [u8])
+    requires { ⌜ at < 12000 ⌝ }
+    ensures { λ _. ⌜ Laid (now (out .entry)) at («case» ∷ number ∷ bytesOf 4 value) (now (out .exit)) ⌝ }
 {
-    codec::put_byte(out, 1566, case);
-    codec::put_byte(out, 1567, number);
-    codec::put_word(out, 1568, value);
+    codec::put_byte(out, at, case);
+    codec::put_byte(out, at + 1, number);
+    codec::put_word(out, at + 2, value);
 }
 
-fn put_answer(a: Answer, out: &mut [u8])
-    ensures { λ _. ⌜ Laid (now (out .entry)) 1566 (answerBytes a) (now (out .exit)) ⌝ }
+fn put_answer(a: Answer, at: usize, out: &mut [u8])
+    requires { ⌜ at < 12000 ⌝ }
+    ensures { λ _. ⌜ Laid (now (out .entry)) at (answerBytes a) (now (out .exit)) ⌝ }
 {
     match a {
-        Answer::Refused(k) => put_told(0, k, 0, out),
-        Answer::Nothing => put_told(1, 0, 0, out),
-        Answer::Wrote(x) => put_told(2, x.0, 0, out),
-        Answer::Gave(x, v) => put_told(3, x.0, v, out),
+        Answer::Refused(k) => put_told(0, k, 0, at, out),
+        Answer::Nothing => put_told(1, 0, 0, at, out),
+        Answer::Wrote(x) => put_told(2, x.0, 0, at, out),
+        Answer::Gave(x, v) => put_told(3, x.0, v, at, out),
     }
 }
 
@@ -135,7 +141,7 @@ fn put_outcome(o: Outcome, out: &mut [u8]) -> usize
     let a = o.answer;
     let t = p.tables;
     carried::panel_into(t, out);
-    put_answer(a, out);
+    put_answer(a, 1566, out);
     o.count
 }
 

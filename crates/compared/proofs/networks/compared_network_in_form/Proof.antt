@@ -1,0 +1,23 @@
+-- `compared::networks::compared_network_in_form` meets its contract. Assumes nothing.
+use borrow.Author.Needs.{needs}
+use mathlib.Core.Path.{ap, _∙_}
+use Rattle.basics.specs.Below.{oneIf}
+use Rattle.house.specs.NetForm.{netForm}
+use Rattle.compared.proofs.networks.compared_network_in_form.Statement.{statement}
+use Rattle.compared.proofs.networks.compared_network_in_form.Tie as tie
+
+network-from-requires : tie.Need-network-from-requires
+network-from-requires c κs = search needs
+
+in-form-requires : tie.Need-in-form-requires
+in-form-requires c κs = search needs
+
+one-if-requires : tie.Need-one-if-requires
+one-if-requires c κs = search needs
+
+returns : tie.Need-returns
+returns c = c .one-if .ensures ∙ ap oneIf (c .before .in-form .ensures ∙ ap netForm (c .before .before .network-from .ensures))
+
+pub compared-network-in-form-spec : {M : Type 1} → statement M
+compared-network-in-form-spec =
+    tie.close (tie.spec network-from-requires in-form-requires one-if-requires returns)

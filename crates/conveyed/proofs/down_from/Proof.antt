@@ -1,0 +1,58 @@
+-- `conveyed::down_from` meets its contract. Assumes nothing.
+use Prim.Native.Nat.{ℕ, _+_, _≤_, _-_}
+use borrow.Author.Needs.{needs}
+use lib.ListN.{drop}
+use mathlib.Core.Bool.{false}
+use mathlib.Core.List.{_++_, append-nil}
+use mathlib.Core.Path.{_≡_}
+use native.Mathlib.Omega.{arith}
+use Rattle.basics.specs.Below.{listBelow}
+use Rattle.tables.proofs.Filling.{filled-none, filled-next}
+use Rattle.conveyed.proofs.down_from.Statement.{statement}
+use Rattle.conveyed.proofs.down_from.Tie as tie
+use Rattle.conveyed.specs.Networks.{flagFrom}
+
+abbrev Inv-loop : tie.InvT-loop
+Inv-loop bytes down₀ i₀ down i = (i ≤ 7) × (down ≡ listBelow i (λ (k : ℕ). flagFrom bytes (10962 + k)) ++ drop i down₀)
+
+abbrev μ-loop : tie.MeasureT-loop
+μ-loop bytes down₀ i₀ down i = 7 - i
+
+loop-holds : tie.Need-loop-holds Inv-loop μ-loop
+loop-holds c = (search needs, filled-none _ _)
+
+add-flag-from : tie.Need-add-flag-from Inv-loop μ-loop
+add-flag-from c = search needs
+
+flag-from-requires : tie.Need-flag-from-requires Inv-loop μ-loop
+flag-from-requires c κs = search needs
+
+array-write-down : tie.Need-array-write-down Inv-loop μ-loop
+array-write-down c = search needs
+
+add-i : tie.Need-add-i Inv-loop μ-loop
+add-i c = search needs
+
+loop-less : tie.Need-loop-less Inv-loop μ-loop
+loop-less c = search needs
+
+loop-again : tie.Need-loop-again Inv-loop μ-loop
+loop-again c = let i = c .before .before .loop .inv in (omega arith, simp (c .flag-from .ensures, i .1) (filled-next _ false _ _ (omega arith)))
+
+returns : tie.Need-returns Inv-loop μ-loop
+returns c = let e : c .before .loop .i ≡ 7 = omega arith in simp (c .before .loop .inv .1, e, append-nil)
+
+pub down-from-spec : {M : Type 1} → statement M
+down-from-spec =
+    tie.close
+    (tie.spec
+    Inv-loop
+    μ-loop
+    loop-holds
+    add-flag-from
+    flag-from-requires
+    array-write-down
+    add-i
+    loop-less
+    loop-again
+    returns)
