@@ -1,0 +1,10 @@
+pub mod Cases
+pub mod Reading
+pub mod Placing
+pub mod Counting
+pub mod Giving
+pub mod Laying
+pub mod LineByLine
+pub mod Turns
+pub mod Answering
+pub mod Outcomes

@@ -1,0 +1,5 @@
+pub mod Reads
+pub mod Entries
+pub mod Listing
+pub mod Machine
+pub mod Putting
