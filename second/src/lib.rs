@@ -2,10 +2,12 @@
 //! description and from Figure 1 of the report (arXiv 1602.02695).
 //!
 //! Below: `wire` and `panel`. Above them: `network`. On top: `schedule` and `listing`. Beside them, for
-//! comparing programs: `tables` (tables as bytes), `random` and the two generators.
+//! comparing programs: `tables` (tables as bytes), `random` and the two generators; and `hex`, for
+//! schedules written by hand.
 
 pub mod generate_schedules;
 pub mod generate_tables;
+pub mod hex;
 pub mod listing;
 pub mod network;
 pub mod panel;
