@@ -4,6 +4,7 @@
 //! Only numbers and byte slices cross the boundary: a slice goes as a pointer and a length. The proved
 //! functions take any of these, so no wrapper has anything to test first.
 
+pub mod listing;
 pub mod network;
 pub mod panel;
 pub mod programs;

@@ -49,6 +49,8 @@ use Rattle.compared.proofs.networks.compared_network_next_delivery.Kind
 use Rattle.compared.proofs.networks.compared_network_next_delivery.Reads as network-next-delivery
 use Rattle.compared.proofs.networks.compared_network_drain.Kinds as network-drain-kinds
 use Rattle.compared.proofs.networks.compared_network_drain.Reads as network-drain
+use Rattle.compared.proofs.listings.compared_listing.Kinds as listing-kinds
+use Rattle.compared.proofs.listings.compared_listing.Reads as listing
 
 pub read-refusal-only : OneResult 1 read-refusal-kinds.ps read-refusal-kinds.r read-refusal.Post
 read-refusal-only κs a x y e f p q = p ∙ sym q
@@ -131,3 +133,8 @@ network-next-delivery-only κs a x y e f p q = (refl, p ∙ sym q)
 
 pub network-drain-only : OneOutcome 2 network-drain-kinds.ps network-drain-kinds.r (λ κs e. now (e .1 .0)) network-drain.Post
 network-drain-only κs a x y e f p q = (p .0 ∙ sym (q .0), p .1 ∙ sym (q .1))
+
+-- ---- the listing
+
+pub listing-only : OneOutcome 2 listing-kinds.ps listing-kinds.r (λ κs e. now (e .1 .0)) listing.Post
+listing-only κs a x y e f p q = (p .0 ∙ sym (q .0), p .1 ∙ sym (q .1))

@@ -1,7 +1,8 @@
 // The proved calls, exported on numbers and byte slices for the comparison with the second program.
 //
 // A panel's call takes the tables as bytes (`carried`), and leaves in `out` the next panel and, behind it, the answer. A network's
-// calls stand in networks.rt.
+// calls stand in networks.rt, the listing in listings.rt.
+mod listings;
 mod networks;
 
 ghost use mathlib.Core.Path.{_≡_};
