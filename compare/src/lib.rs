@@ -7,5 +7,4 @@
 pub mod listing;
 pub mod network;
 pub mod panel;
-pub mod programs;
 pub mod wire;
