@@ -1,0 +1,5 @@
+pub mod Pouring
+pub mod Walking
+pub mod Eventing
+pub mod Areas
+pub mod Outcomes

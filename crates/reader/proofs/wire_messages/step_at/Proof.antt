@@ -1,0 +1,53 @@
+-- `reader::wire_messages::step_at` meets its contract. Assumes nothing.
+use borrow.Author.Needs.{needs}
+use Prim.Native.Nat.{ℕ, _<_, _^_}
+use lib.ListN.{length}
+use mathlib.Core.List.{List}
+use mathlib.Core.Path.{ap, _∙_}
+use native.Mathlib.Omega.{arith}
+use Rattle.wire.specs.Messages.{reading}
+use Rattle.reader.proofs.MessageSteps.{step-below, step-is, step-past, part-behind}
+use Rattle.reader.proofs.wire_messages.step_at.Statement.{statement}
+use Rattle.reader.proofs.wire_messages.step_at.Tie as tie
+
+returns : tie.Need-returns
+returns c = step-past _ _ (c .if1 .taken)
+
+sub-read-message : tie.Need-sub-read-message
+sub-read-message c = search needs
+
+part-read-message-start : tie.Need-part-read-message-start
+part-read-message-start c = search needs
+
+part-read-message-end : tie.Need-part-read-message-end
+part-read-message-end c = search needs
+
+read-message-requires : tie.Need-read-message-requires
+read-message-requires c κs = search needs
+
+used-of-requires : tie.Need-used-of-requires
+used-of-requires c κs = search needs
+
+add-t5 : tie.Need-add-t5
+add-t5 c =
+    let s : List ℕ = c .before .before .before .before .before .args .bytes .now in
+    let at : ℕ = c .before .before .before .before .before .args .at in
+    let place : at < 2 ^ 64 = omega arith in
+    let end : length s < 2 ^ 64 = omega arith in
+    record { fits = rw (c .used-of .ensures, c .before .read-message .ensures, part-behind s at) (step-below s at (2 ^ 64) place end) }
+
+returns-2 : tie.Need-returns-2
+returns-2 c = step-is _ _ (c .before .read-message .ensures ∙ ap reading (part-behind (c .before .before .before .before .before .args .bytes .now) (c .before .before .before .before .before .args .at))) (c .used-of .ensures)
+
+pub step-at-spec : {M : Type 1} → statement M
+step-at-spec =
+    tie.close
+    (tie.spec
+    returns
+    sub-read-message
+    part-read-message-start
+    part-read-message-end
+    read-message-requires
+    used-of-requires
+    add-t5
+    returns-2)
