@@ -18,27 +18,33 @@ use Rattle.messages.specs.Area.{Area, roomOf}
 use Rattle.form.specs.declared.Operation.the-variants.{Idle}
 use Rattle.form.specs.declared.Tables.{Tables}
 use Rattle.form.specs.Form.{fits}
+use Rattle.basics.specs.Refusal.{firstOf}
 use Rattle.refusals.specs.Refusals.{Event, trials, refusal}
+use Rattle.refusals.specs.Refusals.Event.{write, read}
 use Rattle.events.specs.Events.{rule, lookedAt, happens}
 use Rattle.events.proofs.Kept as events
 use Rattle.panel.specs.declared.Panel.{Panel}
+use Rattle.panel.specs.Calls as panel
 use Rattle.promise.specs.View.{codeOf}
 use Rattle.channels.specs.Channels.{has}
 use Rattle.house.specs.declared.Network.{Network}
-use Rattle.house.specs.Places.{tablesAt, channelOf}
+use Rattle.house.specs.Places.{panelAt, tablesAt, channelOf, writerOf}
 use Rattle.house.specs.Search.{live}
 use Rattle.house.proofs.Searching.{Pair}
-use Rattle.steps.specs.Steps.{written, begun, delivered, lost}
+use Rattle.steps.specs.Steps.{writeTrials, readTrials, deliverTrials, written, begun, delivered, lost}
+use Rattle.steps.specs.Moves.{arriving}
 use Rattle.steps.specs.Drain.{drained}
 use Rattle.steps.specs.SetUp.{freshNetwork}
 use Rattle.steps.proofs.Networks.{Good}
 use Rattle.steps.proofs.Keeping.{Kept, written-kept, begun-kept, delivered-kept, lost-kept}
+use Rattle.steps.proofs.Delivering.{without}
 use Rattle.steps.proofs.WholeDrain.{drained-kept}
 use Rattle.runs.specs.Runs.{Step, after, entries, writes, reads, deliveries}
 use Rattle.runs.specs.Claims.{Still, AllOrdinary, mostDeliveries}
 use Rattle.runs.proofs.FromFresh as run
 use Rattle.claims.proofs.Unchanged.{First, first-met, Rising, trials-rise, PanelUnchanged, panel-unchanged, panel-does}
 use Rattle.claims.proofs.Unchanged as refused
+use Rattle.claims.proofs.InOrder.{allTrials, write-first, read-first, delivery-first}
 
 -- ---- Demand 1. Every public call either acts or refuses by a number of the list, the first that applies in the order the list is tried.
 
@@ -48,6 +54,23 @@ first-that-applies p room e = first-met (trials p room e)
 
 pub tried-from-low-to-high : (p : Tables) (room : ℕ) (e : Event) → Rising 0 (trials p room e)
 tried-from-low-to-high = trials-rise
+
+-- A step of the network tries form (2), then its own trials (4, 5, 9), then the panel's refusal, then room for what is sent (14).
+
+pub write-answers-the-first :
+    (s : Network) (v : ℕ) →
+    codeOf (written s v .answer) ≡ firstOf (allTrials s (writeTrials s) s (writerOf s - 1) (panel.after (panelAt s (writerOf s - 1)) (write v)))
+write-answers-the-first = write-first
+
+pub read-answers-the-first :
+    (s : Network) (i : ℕ) → codeOf (begun s i .answer) ≡ firstOf (allTrials s (readTrials s i) s (i - 1) (panel.after (panelAt s (i - 1)) read))
+read-answers-the-first = read-first
+
+pub delivery-answers-the-first :
+    (s : Network) (k i j : ℕ) →
+    codeOf (delivered s k i j .answer)
+    ≡ firstOf (allTrials s (deliverTrials s k i j) (without s k i j) (j - 1) (panel.after (panelAt s (j - 1)) (arriving s k i j)))
+delivery-answers-the-first = delivery-first
 
 -- A refusal changes no table, channel or lent buffer.
 

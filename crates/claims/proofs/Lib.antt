@@ -1,4 +1,5 @@
 pub mod Unchanged
+pub mod InOrder
 pub mod Claims
 pub mod Spared
 pub mod Opened
