@@ -1,12 +1,9 @@
 //! The bench listing, by the proved crate `listing`.
 
-extern "C" {
-    fn compared_listing(
-        schedule: *const u8,
-        schedule_length: usize,
-        out: *mut u8,
-        out_length: usize,
-    ) -> usize;
+use crate::proved::proved;
+
+proved! {
+    fn compared_listing(schedule: &[u8], out: &mut [u8]) -> usize;
 }
 
 /// An output area of this length holds every listing.
@@ -14,10 +11,7 @@ pub const ENOUGH: usize = 2_799_452;
 
 /// Writes the listing to the front of the area and gives its length, or 0 where the area is refused.
 pub fn list_into(schedule: &[u8], area: &mut [u8]) -> usize {
-    let (at, length) = (schedule.as_ptr(), schedule.len());
-    // SAFETY: each pointer and length are those of a live slice of its own: the callee only reads the
-    // schedule, and the area is borrowed mutably.
-    unsafe { compared_listing(at, length, area.as_mut_ptr(), area.len()) }
+    compared_listing(schedule, area)
 }
 
 /// The listing of a schedule, to the byte.

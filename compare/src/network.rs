@@ -1,61 +1,19 @@
 //! A network, by the proved crate `network`. Tables go as the bytes of `second::tables`.
 
 use crate::panel::{answer, Answer};
+use crate::proved::proved;
 use second::network::Delivery;
 use second::tables::NETWORK_BYTES;
 
-extern "C" {
-    fn compared_network_set_up(
-        n: u8,
-        t: u8,
-        writer: u8,
-        initial: u32,
-        out: *mut u8,
-        out_length: usize,
-    ) -> u8;
-    fn compared_network_in_form(tables: *const u8, length: usize) -> u8;
-    fn compared_network_write(
-        tables: *const u8,
-        length: usize,
-        v: u32,
-        out: *mut u8,
-        out_length: usize,
-    );
-    fn compared_network_read(
-        tables: *const u8,
-        length: usize,
-        i: u8,
-        out: *mut u8,
-        out_length: usize,
-    );
-    fn compared_network_deliver(
-        tables: *const u8,
-        length: usize,
-        kind: u8,
-        i: u8,
-        j: u8,
-        out: *mut u8,
-        out_length: usize,
-    );
-    fn compared_network_lose_power(
-        tables: *const u8,
-        length: usize,
-        i: u8,
-        out: *mut u8,
-        out_length: usize,
-    );
-    fn compared_network_next_delivery(
-        tables: *const u8,
-        length: usize,
-        out: *mut u8,
-        out_length: usize,
-    );
-    fn compared_network_drain(
-        tables: *const u8,
-        length: usize,
-        out: *mut u8,
-        out_length: usize,
-    ) -> usize;
+proved! {
+    fn compared_network_set_up(n: u8, t: u8, writer: u8, initial: u32, out: &mut [u8]) -> u8;
+    fn compared_network_in_form(tables: &[u8]) -> u8;
+    fn compared_network_write(tables: &[u8], v: u32, out: &mut [u8]);
+    fn compared_network_read(tables: &[u8], i: u8, out: &mut [u8]);
+    fn compared_network_deliver(tables: &[u8], kind: u8, i: u8, j: u8, out: &mut [u8]);
+    fn compared_network_lose_power(tables: &[u8], i: u8, out: &mut [u8]);
+    fn compared_network_next_delivery(tables: &[u8], out: &mut [u8]);
+    fn compared_network_drain(tables: &[u8], out: &mut [u8]) -> usize;
 }
 
 pub type Tables = [u8; NETWORK_BYTES];
@@ -86,44 +44,32 @@ pub struct Drained {
 /// A fresh network, or the number of the refusal; then the tables are zeros.
 pub fn set_up(n: u8, t: u8, writer: u8, initial: u32) -> (u8, Tables) {
     let mut out = [0xEE; NETWORK_BYTES];
-    // SAFETY: pointer and length are those of a live array that is borrowed mutably.
-    let refusal =
-        unsafe { compared_network_set_up(n, t, writer, initial, out.as_mut_ptr(), out.len()) };
+    let refusal = compared_network_set_up(n, t, writer, initial, &mut out);
     (refusal, out)
 }
 
 pub fn in_form(tables: &Tables) -> bool {
-    // SAFETY: pointer and length are those of a live array, which the callee only reads.
-    unsafe { compared_network_in_form(tables.as_ptr(), tables.len()) != 0 }
+    compared_network_in_form(tables) != 0
 }
 
 pub fn take(tables: &Tables, step: Step) -> Stepped {
     let mut out = [0xEE; NETWORK_BYTES + 6];
-    let (at, length) = (tables.as_ptr(), tables.len());
-    let (to, o) = (out.as_mut_ptr(), out.len());
-    // SAFETY: each pointer and length are those of a live array of its own: the callees only read the
-    // tables, and the other is borrowed mutably.
-    unsafe {
-        match step {
-            Step::Write(v) => compared_network_write(at, length, v, to, o),
-            Step::Read(i) => compared_network_read(at, length, i, to, o),
-            Step::Deliver(Delivery { kind, sender, receiver }) => {
-                compared_network_deliver(at, length, kind, sender, receiver, to, o)
-            }
-            Step::PowerLoss(i) => compared_network_lose_power(at, length, i, to, o),
+    match step {
+        Step::Write(v) => compared_network_write(tables, v, &mut out),
+        Step::Read(i) => compared_network_read(tables, i, &mut out),
+        Step::Deliver(Delivery { kind, sender, receiver }) => {
+            compared_network_deliver(tables, kind, sender, receiver, &mut out);
         }
+        Step::PowerLoss(i) => compared_network_lose_power(tables, i, &mut out),
     }
-    let (next, told) = out.split_at(NETWORK_BYTES);
-    Stepped { tables: next.try_into().expect("a network's length"), answer: answer(told) }
+    let (next, told) = out.split_first_chunk().expect("a network's length");
+    Stepped { tables: *next, answer: answer(told) }
 }
 
 /// The message a drain would deliver next, or the number of the refusal.
 pub fn next_delivery(tables: &Tables) -> Result<Option<Delivery>, u8> {
     let mut out = [0xEE; 5];
-    // SAFETY: as in `take`.
-    unsafe {
-        compared_network_next_delivery(tables.as_ptr(), tables.len(), out.as_mut_ptr(), out.len());
-    }
+    compared_network_next_delivery(tables, &mut out);
     match out {
         [0, 1, sender, receiver, kind] => Ok(Some(Delivery { kind, sender, receiver })),
         [0, 0, 0, 0, 0] => Ok(None),
@@ -134,15 +80,12 @@ pub fn next_delivery(tables: &Tables) -> Result<Option<Delivery>, u8> {
 
 pub fn drain(tables: &Tables) -> Drained {
     let mut out = [0xEE; NETWORK_BYTES + 1];
-    // SAFETY: as in `take`.
-    let count = unsafe {
-        compared_network_drain(tables.as_ptr(), tables.len(), out.as_mut_ptr(), out.len())
-    };
-    let (next, told) = out.split_at(NETWORK_BYTES);
+    let count = compared_network_drain(tables, &mut out);
+    let (next, told) = out.split_first_chunk().expect("a network's length");
     let count = match (told[0], count) {
         (0, count) => Ok(count),
         (number, 0) => Err(number),
         other => panic!("no answer: {other:?}"),
     };
-    Drained { tables: next.try_into().expect("a network's length"), count }
+    Drained { tables: *next, count }
 }

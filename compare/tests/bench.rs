@@ -1,15 +1,13 @@
 //! The program `bench` itself, from standard input to standard output.
 
+use compare::both::drains;
+use compare::folders::{below_root, files};
 use second::listing::listing;
 use std::fs::{self, File};
 use std::io::Write;
 use std::path::{Path, PathBuf};
 use std::process::{Command, Output, Stdio};
 use std::thread;
-
-fn below_root(path: &str) -> PathBuf {
-    Path::new(env!("CARGO_MANIFEST_DIR")).join("..").join(path)
-}
 
 /// The program as `rt` runs it: under the kit's loader, and under its emulator where the machine is not
 /// x86-64.
@@ -57,12 +55,10 @@ fn prints(output: Output, expected: &[u8], what: &str) {
 
 #[test]
 fn samples_from_a_file() {
-    for entry in fs::read_dir(below_root("samples")).unwrap().map(|entry| entry.unwrap().path()) {
-        if entry.extension().is_some_and(|ending| ending == "schedule") {
-            let output = bench().stdin(File::open(&entry).unwrap()).output().unwrap();
-            let expected = fs::read(entry.with_extension("listing")).unwrap();
-            prints(output, &expected, &entry.display().to_string());
-        }
+    for sample in files("samples", "schedule") {
+        let output = bench().stdin(File::open(&sample).unwrap()).output().unwrap();
+        let expected = fs::read(sample.with_extension("listing")).unwrap();
+        prints(output, &expected, &sample.display().to_string());
     }
 }
 
@@ -79,10 +75,8 @@ fn schedules_through_a_pipe() {
 /// The last piece is one byte, before and behind the longest that is taken.
 #[test]
 fn longest_and_too_long() {
-    let drains =
-        |length: usize| [&[0, 7, 3, 1, 0, 0, 2, 0xBC], vec![8; length - 8].as_slice()].concat();
     for length in [65_535, 65_536, 65_537, 1_000_000] {
-        let schedule = drains(length);
+        let schedule = drains([7, 3, 1], length);
         prints(fed(&schedule, 65_536), &listing(&schedule), &format!("{length} bytes"));
     }
 }
@@ -94,36 +88,30 @@ fn no_input() {
     prints(output, b"step kind a b answer result\n", "an empty file");
 }
 
-/// The program, started by a shell with these redirections.
-fn redirected(how: &str) -> Output {
+/// What the program says on standard error when a shell starts it with these redirections. It prints
+/// nothing else.
+fn said(how: &str) -> String {
     let bench = bench();
     let script = format!("exec \"$0\" \"$@\" {how}");
     let mut shell = Command::new("sh");
     shell.args(["-c", &script]).arg(bench.get_program()).args(bench.get_args());
     shell.stdin(File::open(below_root("samples/write-and-read.schedule")).unwrap());
-    shell.output().unwrap()
+    let output = shell.output().unwrap();
+    assert!(output.stdout.is_empty(), "{how}: {output:?}");
+    String::from_utf8_lossy(&output.stderr).into_owned()
 }
 
 /// What cannot be read is told apart from the end of the input.
 #[test]
 fn unreadable_input_is_said() {
     for how in ["<&-", "</"] {
-        let output = redirected(how);
-        assert_eq!(
-            String::from_utf8_lossy(&output.stderr),
-            "bench: standard input cannot be read\n"
-        );
-        assert!(output.stdout.is_empty(), "{how}: {output:?}");
+        assert_eq!(said(how), "bench: standard input cannot be read\n", "{how}");
     }
 }
 
 #[test]
 fn a_failed_write_is_said() {
     for how in [">&-", ">/dev/full"] {
-        let output = redirected(how);
-        assert_eq!(
-            String::from_utf8_lossy(&output.stderr),
-            "bench: standard output cannot be written\n"
-        );
+        assert_eq!(said(how), "bench: standard output cannot be written\n", "{how}");
     }
 }

@@ -1,12 +1,14 @@
 //! Listings: each program prints what is stored, and all print the same on fresh schedules.
 
+use compare::both::drains;
+use compare::folders::files;
 use compare::listing::{list_into, ENOUGH};
+use compare::seeds::over_seeds;
 use second::generate_schedules::{schedule, style};
 use second::hex;
 use std::collections::BTreeSet;
 use std::fs;
 use std::path::{Path, PathBuf};
-use std::thread;
 use std::time::{SystemTime, UNIX_EPOCH};
 
 type Program = fn(&[u8]) -> Vec<u8>;
@@ -34,19 +36,9 @@ fn all_print(schedule: &[u8], expected: &[u8], what: &str) {
     }
 }
 
-fn folder(name: &str) -> PathBuf {
-    Path::new(env!("CARGO_MANIFEST_DIR")).join(name)
-}
-
 /// The files of a folder that end so, in order, without that ending.
-fn files(folder: &Path, ending: &str) -> Vec<PathBuf> {
-    let entries = fs::read_dir(folder).unwrap().map(|entry| entry.unwrap().path());
-    let mut found: Vec<PathBuf> = entries
-        .filter(|file| file.extension().is_some_and(|own| own == ending))
-        .map(|file| file.with_extension(""))
-        .collect();
-    found.sort();
-    found
+fn names(folder: &str, ending: &str) -> Vec<PathBuf> {
+    files(folder, ending).iter().map(|file| file.with_extension("")).collect()
 }
 
 fn bytes_of(file: &Path) -> Vec<u8> {
@@ -56,12 +48,11 @@ fn bytes_of(file: &Path) -> Vec<u8> {
 
 /// Each stored schedule with its listing.
 fn stored() -> Vec<(PathBuf, Vec<u8>, Vec<u8>)> {
-    let folders = [folder("listings"), folder("../samples")];
     let mut all = Vec::new();
-    for folder in folders {
-        let names = files(&folder, "hex");
-        assert_eq!(names, files(&folder, "listing"), "pairs in {}", folder.display());
-        for name in names {
+    for folder in ["compare/listings", "samples"] {
+        let schedules = names(folder, "hex");
+        assert_eq!(schedules, names(folder, "listing"), "pairs in {folder}");
+        for name in schedules {
             let listing = fs::read(name.with_extension("listing")).unwrap();
             all.push((name.clone(), bytes_of(&name), listing));
         }
@@ -100,8 +91,8 @@ fn stored_listings_meet_every_refusal_and_every_n() {
 
 #[test]
 fn samples_are_the_bytes_of_their_text() {
-    let samples = files(&folder("../samples"), "schedule");
-    assert_eq!(samples, files(&folder("../samples"), "hex"));
+    let samples = names("samples", "schedule");
+    assert_eq!(samples, names("samples", "hex"));
     for sample in samples {
         let bytes = fs::read(sample.with_extension("schedule")).unwrap();
         assert_eq!(bytes, bytes_of(&sample), "{}", sample.display());
@@ -111,14 +102,12 @@ fn samples_are_the_bytes_of_their_text() {
 /// "at most 65,536 bytes; a longer one gives the single line `too long`"
 #[test]
 fn longest_and_too_long() {
-    let drains =
-        |length: usize| [&[0, 3, 1, 1, 0, 0, 2, 0xBC], vec![8; length - 8].as_slice()].concat();
     let mut listing = b"step kind a b answer result\n1 0 - - 0 -\n".to_vec();
     for step in 2..=65_529 {
         listing.extend(format!("{step} 8 - - 0 d0\n").bytes());
     }
-    all_print(&drains(65_536), &listing, "65,536 bytes");
-    all_print(&drains(65_537), b"too long\n", "65,537 bytes");
+    all_print(&drains([3, 1, 1], 65_536), &listing, "65,536 bytes");
+    all_print(&drains([3, 1, 1], 65_537), b"too long\n", "65,537 bytes");
     all_print(&[255; 65_537], b"too long\n", "65,537 bytes of no kind");
     all_print(&[0; 1_000_000], b"too long\n", "a million bytes");
 }
@@ -149,16 +138,9 @@ fn fresh_schedules() {
         Err(_) => clock.as_secs() * 10_000,
     };
     println!("SEED={first}");
-    let workers = thread::available_parallelism().map_or(1, usize::from);
-    thread::scope(|scope| {
-        for worker in 0..workers {
-            scope.spawn(move || {
-                for seed in (first..first + 2000).skip(worker).step_by(workers) {
-                    let schedule = schedule(seed);
-                    let expected = second::listing::listing(&schedule);
-                    all_print(&schedule, &expected, &format!("seed {seed}, {:?}", style(seed)));
-                }
-            });
-        }
+    over_seeds(first..first + 2000, |seed, _| {
+        let schedule = schedule(seed);
+        let expected = second::listing::listing(&schedule);
+        all_print(&schedule, &expected, &format!("seed {seed}, {:?}", style(seed)));
     });
 }

@@ -1,50 +1,26 @@
 //! A network: the proved calls and the second program agree, in answer, tables, channels and power.
 
+use compare::both::{any_number, network_by_hand, number_and_tables, set_ups};
 use compare::network::{drain, in_form, next_delivery, set_up, take};
 use compare::network::{Drained, Step, Stepped, Tables};
 use compare::panel::Answer;
+use compare::seeds::{assert_met, count, over_seeds, Seen};
 use second::generate_schedules::{self, Style};
-use second::generate_tables;
 use second::network::{Delivery, Network};
-use second::panel::{Finish, WriteNumber, SECOND_WAIT};
+use second::panel::Finish;
 use second::random::Random;
 use second::refusal::Refusal;
 use second::schedule::{Reader, Record};
 use second::tables::{network_from_bytes, network_to_bytes};
-use std::collections::BTreeMap;
-
-fn bytes_of(network: &Network) -> Tables {
-    network_to_bytes(network).as_slice().try_into().expect("a network's length")
-}
-
-/// Stages above 3, and an sn outside the second wait, are not in form for the second program and cannot
-/// be said in the proved panel's type.
-fn made_sayable(mut network: Network) -> Network {
-    for panel in &mut network.panels {
-        panel.operation.stage %= SECOND_WAIT + 1;
-        if panel.operation.stage != SECOND_WAIT {
-            panel.operation.sn = WriteNumber::ZERO;
-        }
-    }
-    network
-}
-
-fn answer_of(finish: Result<Finish, Refusal>) -> Answer {
-    match finish {
-        Err(refusal) => Answer::Refused(refusal.number()),
-        Ok(Finish::Nothing) => Answer::Nothing,
-        Ok(Finish::Write(x)) => Answer::Wrote(x.0),
-        Ok(Finish::Read(x, v)) => Answer::Gave(x.0, v),
-    }
-}
 
 fn take_in_second(network: &mut Network, step: Step) -> Answer {
-    answer_of(match step {
+    let finish = match step {
         Step::Write(v) => network.write(v),
         Step::Read(i) => network.read(i),
         Step::Deliver(m) => network.deliver(m.kind, m.sender, m.receiver),
         Step::PowerLoss(i) => network.power_loss(i).map(|()| Finish::Nothing),
-    })
+    };
+    finish.map_err(Refusal::number)
 }
 
 /// Takes the step in both; the answer and the next tables, once both gave them.
@@ -53,7 +29,7 @@ fn alike(network: &mut Network, tables: &Tables, step: Step) -> Stepped {
     let before = network.clone();
     let answer = take_in_second(network, step);
     assert!(first.answer == answer, "{step:?} at {before:?}: {:?} and {answer:?}", first.answer);
-    assert!(first.tables == bytes_of(network), "{step:?} at {before:?}: tables differ");
+    assert!(first.tables == network_to_bytes(network), "{step:?} at {before:?}: tables differ");
     first
 }
 
@@ -65,21 +41,8 @@ fn drain_alike(network: &mut Network, tables: &Tables) -> Drained {
     let before = network.clone();
     let count = network.drain().map(|count| count as usize).map_err(Refusal::number);
     assert!(first.count == count, "drain at {before:?}: {:?} and {count:?}", first.count);
-    assert!(first.tables == bytes_of(network), "drain at {before:?}: tables differ");
+    assert!(first.tables == network_to_bytes(network), "drain at {before:?}: tables differ");
     first
-}
-
-/// How often a call met an answer: 0 where it was accepted, else the number of the refusal.
-type Seen = BTreeMap<(&'static str, u8), usize>;
-
-fn count(seen: &mut Seen, call: &'static str, number: u8) {
-    *seen.entry((call, number)).or_default() += 1;
-}
-
-/// The call met each of these numbers and no other.
-fn assert_met(seen: &Seen, call: &str, numbers: &[u8]) {
-    let met: Vec<u8> = seen.keys().filter(|(c, _)| *c == call).map(|(_, number)| *number).collect();
-    assert_eq!(met, numbers, "the numbers of {call}");
 }
 
 fn name_of(step: Step) -> &'static str {
@@ -91,40 +54,9 @@ fn name_of(step: Step) -> &'static str {
     }
 }
 
-fn number_of(answer: Answer) -> u8 {
-    match answer {
-        Answer::Refused(number) => number,
-        _ => 0,
-    }
-}
-
-/// Runs the seeds on as many threads as there are processors, and adds up what was seen.
-fn over_seeds(seeds: u64, one: impl Fn(u64, &mut Seen) + Sync) -> Seen {
-    let threads = std::thread::available_parallelism().map_or(1, |n| n.get() as u64);
-    let part = |first: u64| {
-        let mut seen = Seen::new();
-        (first..seeds).step_by(threads as usize).for_each(|seed| one(seed, &mut seen));
-        seen
-    };
-    std::thread::scope(|scope| {
-        let running: Vec<_> = (0..threads).map(|first| scope.spawn(move || part(first))).collect();
-        let mut seen = Seen::new();
-        for thread in running {
-            for ((call, number), times) in thread.join().expect("no difference was found") {
-                *seen.entry((call, number)).or_default() += times;
-            }
-        }
-        seen
-    })
-}
-
-/// Mostly a panel's number.
-fn any_number(random: &mut Random, n: u8) -> u8 {
-    match random.below(12) {
-        0 => random.byte(),
-        1 => random.pick(&[0, n.wrapping_add(1)]),
-        _ => random.between(1, n.clamp(1, 7)),
-    }
+/// 0, or the number of the refusal.
+fn number_of<T>(answer: Result<T, u8>) -> u8 {
+    answer.err().unwrap_or(0)
 }
 
 fn any_delivery(random: &mut Random, n: u8) -> Delivery {
@@ -149,8 +81,8 @@ fn every_step(random: &mut Random, network: &Network) -> Vec<Step> {
 }
 
 fn every_call(seed: u64, seen: &mut Seen) {
-    let network = made_sayable(generate_tables::network(seed));
-    let tables = bytes_of(&network);
+    let network = network_by_hand(seed);
+    let tables = network_to_bytes(&network);
     let random = &mut Random::new(seed ^ 0x5EED);
     let form = in_form(&tables);
     assert_eq!(form, network.in_form(), "seed {seed}");
@@ -160,7 +92,7 @@ fn every_call(seed: u64, seen: &mut Seen) {
         count(seen, name_of(step), number_of(stepped.answer));
     }
     let drained = drain_alike(&mut network.clone(), &tables);
-    count(seen, "drain", drained.count.err().unwrap_or(0));
+    count(seen, "drain", number_of(drained.count));
 }
 
 /// Every call on each of 200,000 networks made by hand, in form and not.
@@ -168,7 +100,7 @@ fn every_call(seed: u64, seen: &mut Seen) {
 fn every_call_on_networks_made_by_hand() {
     let networks = 200_000;
     println!("{networks} networks by hand, seeds 0 on");
-    let seen = over_seeds(networks, every_call);
+    let seen = over_seeds(0..networks, every_call);
     println!("{} calls: {seen:?}", seen.values().sum::<usize>());
     assert_met(&seen, "in form", &[0, 1]);
     assert_met(&seen, "write", &[0, 2, 5, 7, 8, 14]);
@@ -183,44 +115,30 @@ fn every_call_on_networks_made_by_hand() {
 #[test]
 fn tables_come_back_as_they_went() {
     for seed in 0..5_000 {
-        let tables = bytes_of(&made_sayable(generate_tables::network(seed)));
+        let tables = network_to_bytes(&network_by_hand(seed));
         let stepped = take(&tables, Step::Read(0));
-        assert!(matches!(stepped.answer, Answer::Refused(2 | 4)), "seed {seed}");
+        assert!(matches!(stepped.answer, Err(2 | 4)), "seed {seed}");
         assert!(stepped.tables == tables, "seed {seed}");
-        assert!(bytes_of(&network_from_bytes(&tables)) == tables, "seed {seed}");
-    }
-}
-
-/// The second program's set-up, as a number and tables; zeros where it refuses.
-fn second_set_up(n: u8, t: u8, writer: u8, initial: u32) -> (u8, Network) {
-    match Network::set_up(n, t, writer, initial) {
-        Ok(network) => (0, network),
-        Err(refusal) => (refusal.number(), Network::ZERO),
+        assert!(network_to_bytes(&network_from_bytes(&tables)) == tables, "seed {seed}");
     }
 }
 
 /// Tables of both, after a set-up that they answered alike.
 fn set_up_alike(n: u8, t: u8, writer: u8, initial: u32) -> (u8, Network, Tables) {
     let (number, tables) = set_up(n, t, writer, initial);
-    let (expected, network) = second_set_up(n, t, writer, initial);
+    let made = Network::set_up(n, t, writer, initial);
+    let (expected, network) = number_and_tables(made, Network::ZERO);
     assert_eq!(number, expected, "n {n} t {t} writer {writer}");
-    assert!(tables == bytes_of(&network), "n {n} t {t} writer {writer}: tables differ");
+    assert!(tables == network_to_bytes(&network), "n {n} t {t} writer {writer}: tables differ");
     (number, network, tables)
 }
 
 #[test]
 fn set_up_on_all_small_numbers() {
-    let numbers = || (0..=9).chain([128, 255]);
     let mut made = 0;
-    for n in numbers() {
-        for t in numbers() {
-            for writer in numbers() {
-                for initial in [0, 650, u32::MAX] {
-                    let (number, ..) = set_up_alike(n, t, writer, initial);
-                    made += usize::from(number == 0);
-                }
-            }
-        }
+    for (n, t, writer, initial) in set_ups() {
+        let (number, ..) = set_up_alike(n, t, writer, initial);
+        made += usize::from(number == 0);
     }
     println!("{made} networks were made");
     // n panels of which one is the writer, t from 0 to (n−1)/2, three initial values
@@ -250,7 +168,7 @@ fn follow(seed: u64, seen: &mut Seen) {
             Record::PowerLoss { panel } => Step::PowerLoss(panel),
             Record::Drain => {
                 let drained = drain_alike(&mut network, &tables);
-                count(seen, "drain", drained.count.err().unwrap_or(0));
+                count(seen, "drain", number_of(drained.count));
                 tables = drained.tables;
                 continue;
             }
@@ -267,7 +185,7 @@ fn follow(seed: u64, seen: &mut Seen) {
 fn schedules_step_by_step() {
     let seeds = 2_000;
     println!("schedules of the seeds 0 to {}", seeds - 1);
-    let seen = over_seeds(seeds, |seed, seen| {
+    let seen = over_seeds(0..seeds, |seed, seen| {
         if ![Style::Longest, Style::TooLong].contains(&generate_schedules::style(seed)) {
             count(seen, "schedule", 0);
             follow(seed, seen);

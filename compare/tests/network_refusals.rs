@@ -2,20 +2,16 @@
 //! numbers are those of the description, "What a refusal says", and what is refused alters nothing. Beside
 //! each stands a network just on the other side of the line. And the description's own listing.
 
-use compare::network::{drain, next_delivery, set_up, take, Step, Tables};
-use compare::panel::Answer;
+use compare::network::{drain, next_delivery, set_up, take, Step};
 use second::network::{Delivery, Network, Slot};
-use second::panel::{Held, Line, Operation, ReadNumber, WriteNumber, FIRST_WAIT, WRITING};
+use second::panel::{Finish, Held, Line, Operation, ReadNumber, WriteNumber};
+use second::panel::{FIRST_WAIT, WRITING};
 use second::tables::{network_from_bytes, network_to_bytes};
 
 const WRITE0: u8 = 0;
 const WRITE1: u8 = 1;
 const READ: u8 = 2;
 const PROCEED: u8 = 3;
-
-fn bytes_of(network: &Network) -> Tables {
-    network_to_bytes(network).as_slice().try_into().expect("a network's length")
-}
 
 /// n = 3, t = 1, writer 1, as the description's cases have it; nothing has happened.
 fn fresh() -> Network {
@@ -62,22 +58,22 @@ fn reading(network: &mut Network, panel: usize) {
 }
 
 fn refused(network: &Network, step: Step, number: u8) {
-    let tables = bytes_of(network);
+    let tables = network_to_bytes(network);
     let stepped = take(&tables, step);
-    assert_eq!(stepped.answer, Answer::Refused(number), "{step:?}");
+    assert_eq!(stepped.answer, Err(number), "{step:?}");
     assert!(stepped.tables == tables, "{step:?} is refused and alters something");
 }
 
 fn accepted(network: &Network, step: Step) -> Network {
-    let tables = bytes_of(network);
+    let tables = network_to_bytes(network);
     let stepped = take(&tables, step);
-    assert!(!matches!(stepped.answer, Answer::Refused(_)), "{step:?}: {:?}", stepped.answer);
+    assert!(stepped.answer.is_ok(), "{step:?}: {:?}", stepped.answer);
     assert!(stepped.tables != tables, "{step:?} is accepted and alters nothing");
     network_from_bytes(&stepped.tables)
 }
 
 fn drain_refused(network: &Network, number: u8) {
-    let tables = bytes_of(network);
+    let tables = network_to_bytes(network);
     let drained = drain(&tables);
     assert_eq!(drained.count, Err(number));
     assert!(drained.tables == tables, "a refused drain alters something");
@@ -94,7 +90,7 @@ fn refusal_1_set_up_out_of_range() {
     for (n, t, writer) in [(1, 0, 1), (7, 3, 1), (7, 3, 7), (6, 2, 6), (3, 1, 3)] {
         assert_eq!(set_up(n, t, writer, 18).0, 0, "n {n} t {t} writer {writer}");
     }
-    assert!(set_up(3, 1, 1, 18) == (0, bytes_of(&fresh())));
+    assert!(set_up(3, 1, 1, 18) == (0, network_to_bytes(&fresh())));
 }
 
 #[test]
@@ -116,10 +112,10 @@ fn refusal_2_not_in_form() {
         let steps = [Step::Write(7), Step::Read(1), deliver(READ, 1, 2), Step::PowerLoss(1)];
         steps.into_iter().for_each(|step| refused(&network, step, 2));
         refused(&network, Step::Read(0), 2);
-        assert_eq!(next_delivery(&bytes_of(&network)), Err(2));
+        assert_eq!(next_delivery(&network_to_bytes(&network)), Err(2));
         drain_refused(&network, 2);
     }
-    assert_eq!(next_delivery(&bytes_of(&fresh())), Ok(None));
+    assert_eq!(next_delivery(&network_to_bytes(&fresh())), Ok(None));
 }
 
 #[test]
@@ -310,7 +306,7 @@ fn a_drain_is_refused_whole() {
         reading(network, 3);
         send(network, PROCEED, 1, 3);
     };
-    assert_eq!(drain(&bytes_of(&fresh_with(finishes))).count, Ok(1));
+    assert_eq!(drain(&network_to_bytes(&fresh_with(finishes))).count, Ok(1));
     let mut network = fresh_with(finishes);
     send(&mut network, WRITE1, 2, 1);
     drain_refused(&network, 11);
@@ -326,7 +322,7 @@ fn a_drain_is_refused_whole() {
     });
     drain_refused(&network, 14);
     network.channels[1][2].proceeds = 99;
-    assert_eq!(drain(&bytes_of(&network)).count, Ok(3));
+    assert_eq!(drain(&network_to_bytes(&network)).count, Ok(3));
 }
 
 /// "By sender, then receiver, then kind", and only to a live panel.
@@ -337,11 +333,11 @@ fn the_first_message_in_flight() {
     for &(sender, receiver, kind) in in_order.iter().rev() {
         send(&mut network, kind, sender.into(), receiver.into());
         let first = Delivery { kind, sender, receiver };
-        assert_eq!(next_delivery(&bytes_of(&network)), Ok(Some(first)));
+        assert_eq!(next_delivery(&network_to_bytes(&network)), Ok(Some(first)));
     }
     network.down[1] = true;
     let first = Delivery { kind: WRITE0, sender: 1, receiver: 3 };
-    assert_eq!(next_delivery(&bytes_of(&network)), Ok(Some(first)));
+    assert_eq!(next_delivery(&network_to_bytes(&network)), Ok(Some(first)));
 }
 
 /// "Input, in hex .. Output": steps 1 to 14 with their results.
@@ -349,32 +345,32 @@ fn the_first_message_in_flight() {
 fn the_listing_of_the_description() {
     let (number, mut tables) = set_up(3, 1, 1, 700);
     assert_eq!(number, 0);
-    let mut then = |step, answer| {
+    let mut then = |step, finish| {
         let stepped = take(&tables, step);
-        assert_eq!(stepped.answer, answer, "{step:?}");
+        assert_eq!(stepped.answer, Ok(finish), "{step:?}");
         tables = stepped.tables;
         tables
     };
-    then(Step::Write(650), Answer::Nothing);
-    then(deliver(WRITE1, 1, 2), Answer::Nothing);
-    then(deliver(WRITE1, 2, 1), Answer::Wrote(1));
-    let undrained = then(Step::Read(3), Answer::Nothing);
+    then(Step::Write(650), Finish::Nothing);
+    then(deliver(WRITE1, 1, 2), Finish::Nothing);
+    then(deliver(WRITE1, 2, 1), Finish::Write(WriteNumber(1)));
+    let undrained = then(Step::Read(3), Finish::Nothing);
     let drained = drain(&undrained);
     assert_eq!(drained.count, Ok(8));
     let delivered = [
-        (WRITE1, 1, 3, Answer::Nothing),
-        (WRITE1, 2, 3, Answer::Nothing),
-        (WRITE1, 3, 1, Answer::Nothing),
-        (READ, 3, 1, Answer::Nothing),
-        (PROCEED, 1, 3, Answer::Gave(1, 650)),
-        (WRITE1, 3, 2, Answer::Nothing),
-        (READ, 3, 2, Answer::Nothing),
-        (PROCEED, 2, 3, Answer::Nothing),
+        (WRITE1, 1, 3, Finish::Nothing),
+        (WRITE1, 2, 3, Finish::Nothing),
+        (WRITE1, 3, 1, Finish::Nothing),
+        (READ, 3, 1, Finish::Nothing),
+        (PROCEED, 1, 3, Finish::Read(WriteNumber(1), 650)),
+        (WRITE1, 3, 2, Finish::Nothing),
+        (READ, 3, 2, Finish::Nothing),
+        (PROCEED, 2, 3, Finish::Nothing),
     ];
     let mut at = undrained;
-    for (kind, sender, receiver, answer) in delivered {
+    for (kind, sender, receiver, finish) in delivered {
         assert_eq!(next_delivery(&at), Ok(Some(Delivery { kind, sender, receiver })));
-        at = then(deliver(kind, sender, receiver), answer);
+        at = then(deliver(kind, sender, receiver), finish);
     }
     assert_eq!(next_delivery(&at), Ok(None));
     assert!(at == drained.tables);

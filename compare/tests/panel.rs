@@ -1,52 +1,34 @@
 //! A lone panel: the proved calls and the second program agree, in result, tables and message area.
 
-use compare::panel::{happen, in_form, set_up, Answer, Area, Event, Outcome, Tables};
-use second::generate_tables;
-use second::panel::{Finish, Panel, Reply, SECOND_WAIT};
+use compare::both::{any_number, number_and_tables, panel_by_hand, set_ups, small_numbers};
+use compare::panel::{happen, in_form, set_up, Answer, Area, Event, Outcome};
+use compare::seeds::{assert_met, count, over_seeds, Seen};
+use second::panel::{Finish, Panel, WriteNumber};
 use second::random::Random;
 use second::refusal::Refusal;
 use second::tables::{panel_from_bytes, panel_to_bytes};
-use std::collections::BTreeMap;
 
-fn bytes_of(panel: &Panel) -> Tables {
-    panel_to_bytes(panel).as_slice().try_into().expect("a panel's length")
-}
-
-/// Stages above 3, and an sn outside the second wait, are not in form for the second program and cannot
-/// be said in the proved panel's type.
-fn sayable(panel: &Panel) -> bool {
-    let operation = panel.operation;
-    operation.stage == SECOND_WAIT || operation.stage < SECOND_WAIT && operation.sn.0 == 0
-}
-
-fn happen_in_second(panel: &mut Panel, event: Event, area: &mut Area) -> Result<Reply, Refusal> {
+fn happen_in_second(panel: &mut Panel, event: Event, area: &mut Area) -> Outcome {
     let Area { receivers, kinds, values } = area;
-    match event {
+    let reply = match event {
         Event::Write(v) => panel.write(v, receivers, kinds, values),
         Event::Read => panel.read(receivers, kinds, values),
         Event::WriteFrom(j, odd, v) => panel.write_from(j, odd, v, receivers, kinds, values),
         Event::ReadFrom(j) => panel.read_from(j, receivers, kinds, values),
         Event::ProceedFrom(j) => panel.proceed_from(j, receivers, kinds, values),
-    }
-}
-
-fn outcome_of(panel: &Panel, reply: Result<Reply, Refusal>) -> Outcome {
-    let (answer, messages) = match reply {
-        Err(refusal) => (Answer::Refused(refusal.number()), 0),
-        Ok(Reply { finish: Finish::Nothing, messages }) => (Answer::Nothing, messages),
-        Ok(Reply { finish: Finish::Write(x), messages }) => (Answer::Wrote(x.0), messages),
-        Ok(Reply { finish: Finish::Read(x, v), messages }) => (Answer::Gave(x.0, v), messages),
     };
-    Outcome { tables: bytes_of(panel), answer, messages }
+    Outcome {
+        tables: panel_to_bytes(panel),
+        answer: reply.map(|reply| reply.finish).map_err(Refusal::number),
+        messages: reply.map_or(0, |reply| reply.messages),
+    }
 }
 
 /// The outcome, once both gave it, and left the same area.
 fn alike(panel: &Panel, event: Event, area: &Area) -> Outcome {
     let (mut first_area, mut second_area) = (area.clone(), area.clone());
-    let first = happen(&bytes_of(panel), event, &mut first_area);
-    let mut next = panel.clone();
-    let reply = happen_in_second(&mut next, event, &mut second_area);
-    let second = outcome_of(&next, reply);
+    let first = happen(&panel_to_bytes(panel), event, &mut first_area);
+    let second = happen_in_second(&mut panel.clone(), event, &mut second_area);
     assert!(first == second, "{event:?} at {panel:?}: {first:?} and {second:?}");
     assert!(first_area == second_area, "{event:?} at {panel:?}: areas differ");
     first
@@ -72,66 +54,48 @@ fn area_of([receivers, kinds, values]: [usize; 3]) -> Area {
     Area { receivers: vec![0xEE; receivers], kinds: vec![0xEE; kinds], values: vec![7; values] }
 }
 
-/// Mostly a panel's number or close by, as one that delivers would give.
-fn any_peer(random: &mut Random, n: u8) -> u8 {
-    match random.below(12) {
-        0 => random.byte(),
-        1 => 0,
-        2 => n.wrapping_add(1),
-        _ => random.between(1, n.clamp(1, 7)),
-    }
-}
-
 fn every_event(random: &mut Random, n: u8) -> [Event; 5] {
     [
         Event::Write(random.value()),
         Event::Read,
-        Event::WriteFrom(any_peer(random, n), random.one_in(2), random.value()),
-        Event::ReadFrom(any_peer(random, n)),
-        Event::ProceedFrom(any_peer(random, n)),
+        Event::WriteFrom(any_number(random, n), random.one_in(2), random.value()),
+        Event::ReadFrom(any_number(random, n)),
+        Event::ProceedFrom(any_number(random, n)),
     ]
 }
 
 fn case_of(answer: Answer) -> (&'static str, u8) {
     match answer {
-        Answer::Refused(number) => ("refused", number),
-        Answer::Nothing => ("nothing", 0),
-        Answer::Wrote(_) => ("wrote", 0),
-        Answer::Gave(..) => ("gave", 0),
+        Err(number) => ("refused", number),
+        Ok(Finish::Nothing) => ("nothing", 0),
+        Ok(Finish::Write(_)) => ("wrote", 0),
+        Ok(Finish::Read(..)) => ("gave", 0),
+    }
+}
+
+fn every_call(seed: u64, seen: &mut Seen) {
+    let panel = panel_by_hand(seed);
+    let random = &mut Random::new(seed ^ 0x5EED);
+    let form = in_form(&panel_to_bytes(&panel));
+    assert_eq!(form, panel.in_form(), "seed {seed}: {panel:?}");
+    count(seen, "in form", u8::from(!form));
+    for event in every_event(random, panel.n) {
+        let (case, number) = case_of(alike(&panel, event, &any_area(random)).answer);
+        count(seen, case, number);
     }
 }
 
 /// Every call on each of 250,000 tables made by hand, in form and not.
 #[test]
 fn every_call_on_tables_made_by_hand() {
-    let (tables, mut skipped, mut formed) = (250_000u64, 0, 0);
-    let mut seen: BTreeMap<(&str, u8), usize> = BTreeMap::new();
-    for seed in 0..tables {
-        let panel = generate_tables::panel(seed);
-        if !sayable(&panel) {
-            skipped += 1;
-            continue;
-        }
-        let random = &mut Random::new(seed ^ 0x5EED);
-        let form = in_form(&bytes_of(&panel));
-        assert_eq!(form, panel.in_form(), "seed {seed}: {panel:?}");
-        formed += usize::from(form);
-        for event in every_event(random, panel.n) {
-            let outcome = alike(&panel, event, &any_area(random));
-            *seen.entry(case_of(outcome.answer)).or_default() += 1;
-        }
-    }
-    println!("{tables} tables by hand, seeds 0 on: {skipped} skipped, {formed} in form");
-    let calls: usize = seen.values().sum();
-    let refused: usize =
-        seen.iter().filter(|((case, _), _)| *case == "refused").map(|(_, n)| n).sum();
-    println!("{calls} calls, {} of them accepted: {seen:?}", calls - refused);
-    assert!(tables - skipped >= 200_000);
-    for number in [2, 3, 4, 6, 7, 8, 11, 12, 13] {
-        assert!(seen.contains_key(&("refused", number)), "no refusal {number}");
-    }
+    let tables = 250_000;
+    println!("{tables} tables by hand, seeds 0 on");
+    let seen = over_seeds(0..tables, every_call);
+    println!("{} calls: {seen:?}", seen.values().sum::<usize>());
+    assert_met(&seen, "in form", &[0, 1]);
+    assert_met(&seen, "refused", &[2, 3, 4, 6, 7, 8, 11, 12, 13]);
     for case in ["nothing", "wrote", "gave"] {
-        assert!(seen.contains_key(&(case, 0)), "never {case}");
+        assert_met(&seen, case, &[0]);
     }
 }
 
@@ -139,39 +103,24 @@ fn every_call_on_tables_made_by_hand() {
 #[test]
 fn tables_come_back_as_they_went() {
     for seed in 0..20_000 {
-        let panel = generate_tables::panel(seed);
-        if sayable(&panel) {
-            let outcome = alike(&panel, Event::Read, &area_of([0, 0, 0]));
-            assert_eq!(outcome.tables, bytes_of(&panel), "seed {seed}");
-            assert_eq!(bytes_of(&panel_from_bytes(&outcome.tables)), outcome.tables);
-        }
-    }
-}
-
-/// The second program's set-up, as a number and tables; zeros where it refuses.
-fn second_set_up(n: u8, t: u8, writer: u8, number: u8, initial: u32) -> (u8, Tables) {
-    match Panel::set_up(n, t, writer, number, initial) {
-        Ok(panel) => (0, bytes_of(&panel)),
-        Err(refusal) => (refusal.number(), bytes_of(&Panel::ZERO)),
+        let panel = panel_by_hand(seed);
+        let outcome = alike(&panel, Event::Read, &area_of([0, 0, 0]));
+        assert_eq!(outcome.tables, panel_to_bytes(&panel), "seed {seed}");
+        assert_eq!(panel_to_bytes(&panel_from_bytes(&outcome.tables)), outcome.tables);
     }
 }
 
 #[test]
 fn set_up_on_all_small_numbers() {
-    let numbers = || (0..=9).chain([128, 255]);
     let mut made = 0;
-    for n in numbers() {
-        for t in numbers() {
-            for writer in numbers() {
-                for number in numbers() {
-                    for initial in [0, 650, u32::MAX] {
-                        let first = set_up(n, t, writer, number, initial);
-                        let second = second_set_up(n, t, writer, number, initial);
-                        assert!(first == second, "n {n} t {t} writer {writer} number {number}");
-                        made += usize::from(first.0 == 0);
-                    }
-                }
-            }
+    for (n, t, writer, initial) in set_ups() {
+        for number in small_numbers() {
+            let first = set_up(n, t, writer, number, initial);
+            let panel = Panel::set_up(n, t, writer, number, initial);
+            let (refusal, panel) = number_and_tables(panel, Panel::ZERO);
+            let second = (refusal, panel_to_bytes(&panel));
+            assert!(first == second, "n {n} t {t} writer {writer} number {number}");
+            made += usize::from(first.0 == 0);
         }
     }
     println!("{made} panels were made");
@@ -208,11 +157,12 @@ fn write_200_is_taken_and_201_is_refused_8() {
     let mut panel = fresh(1, 0, 1, 1);
     for x in 1..=200 {
         let outcome = alike(&panel, Event::Write(1000 + u32::from(x)), &area);
-        assert_eq!(outcome.answer, Answer::Wrote(x));
+        assert_eq!(outcome.answer, Ok(Finish::Write(WriteNumber(x))));
         panel = panel_from_bytes(&outcome.tables);
     }
-    assert_eq!(alike(&panel, Event::Write(1), &area).answer, Answer::Refused(8));
-    assert_eq!(alike(&panel, Event::Read, &area).answer, Answer::Gave(200, 1200));
+    assert_eq!(alike(&panel, Event::Write(1), &area).answer, Err(8));
+    let read = Finish::Read(WriteNumber(200), 1200);
+    assert_eq!(alike(&panel, Event::Read, &area).answer, Ok(read));
 }
 
 #[test]
@@ -221,10 +171,10 @@ fn read_100_is_taken_and_101_is_refused_8() {
     let mut panel = fresh(1, 0, 1, 1);
     for _ in 1..=100 {
         let outcome = alike(&panel, Event::Read, &area);
-        assert_eq!(outcome.answer, Answer::Gave(0, 18));
+        assert_eq!(outcome.answer, Ok(Finish::Read(WriteNumber(0), 18)));
         panel = panel_from_bytes(&outcome.tables);
     }
-    assert_eq!(alike(&panel, Event::Read, &area).answer, Answer::Refused(8));
+    assert_eq!(alike(&panel, Event::Read, &area).answer, Err(8));
 }
 
 /// Each event at a panel that accepts it: 107 places are enough, and 106 in any one slice are not.
@@ -243,11 +193,11 @@ fn an_area_of_107_is_taken_and_of_106_refused_3_by_every_event() {
     ];
     for (panel, event) in accepted {
         let taken = alike(panel, event, &enough);
-        assert!(!matches!(taken.answer, Answer::Refused(_)), "{event:?}: {:?}", taken.answer);
+        assert!(taken.answer.is_ok(), "{event:?}: {:?}", taken.answer);
         for short in [[106; 3], [106, 107, 107], [107, 106, 107], [107, 107, 106], [0; 3]] {
             let outcome = alike(panel, event, &area_of(short));
-            assert_eq!(outcome.answer, Answer::Refused(3), "{event:?} with {short:?}");
-            assert_eq!(outcome.tables, bytes_of(panel));
+            assert_eq!(outcome.answer, Err(3), "{event:?} with {short:?}");
+            assert_eq!(outcome.tables, panel_to_bytes(panel));
         }
     }
 }

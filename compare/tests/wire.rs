@@ -1,24 +1,21 @@
 //! Messages on the wire: the proved calls and the second program agree, in result and area.
 
 use second::random::Random;
+use second::refusal::Refusal;
+use second::wire::Message;
 
 /// Both read the same, and from the front alone: what stands behind a message does not matter.
 fn read_alike(bytes: &[u8]) {
-    let first = compare::wire::read(bytes).map(|m| (m.kind, m.value, m.used));
-    let second = second::wire::read(bytes).map(|m| (m.kind, m.value, m.used));
-    assert_eq!(first, second.map_err(|refusal| refusal.number()), "reading {bytes:02x?}");
+    let expected = second::wire::read(bytes).map_err(Refusal::number);
+    assert_eq!(compare::wire::read(bytes), expected, "reading {bytes:02x?}");
 }
 
 /// Both write the same, the whole area compared.
 fn write_alike(kind: u8, value: u32, area: &[u8]) {
     let (mut first, mut second) = (area.to_vec(), area.to_vec());
     let told = compare::wire::write(kind, value, &mut first);
-    let expected = second::wire::write(kind, value, &mut second);
-    assert_eq!(
-        told,
-        expected.map_err(|refusal| refusal.number()),
-        "writing kind {kind} value {value} into {area:02x?}"
-    );
+    let expected = second::wire::write(kind, value, &mut second).map_err(Refusal::number);
+    assert_eq!(told, expected, "writing kind {kind} value {value} into {area:02x?}");
     assert_eq!(first, second, "the area after kind {kind} value {value} into {area:02x?}");
 }
 
@@ -31,7 +28,7 @@ fn every_single_byte() {
     }
     assert_eq!(compare::wire::read(&[4]), Err(15));
     assert_eq!(compare::wire::read(&[]), Err(16));
-    assert_eq!(compare::wire::read(&[2]).map(|m| (m.kind, m.value, m.used)), Ok((2, 0, 1)));
+    assert_eq!(compare::wire::read(&[2]), Ok(Message { kind: 2, value: 0, used: 1 }));
 }
 
 /// Every kind byte with every length from none to past the longest message.
@@ -81,11 +78,9 @@ fn written_by_one_and_read_by_the_other() {
         let value = if kind < 2 { random.value() } else { 0 };
         let mut area = [0xEE; 7];
         let used = compare::wire::write(kind, value, &mut area).unwrap();
-        let back = second::wire::read(&area).unwrap();
-        assert_eq!((back.kind, back.value, back.used), (kind, value, used));
+        assert_eq!(second::wire::read(&area), Ok(Message { kind, value, used }));
         let mut area = [0xEE; 7];
         let used = second::wire::write(kind, value, &mut area).unwrap();
-        let back = compare::wire::read(&area).unwrap();
-        assert_eq!((back.kind, back.value, back.used), (kind, value, used));
+        assert_eq!(compare::wire::read(&area), Ok(Message { kind, value, used }));
     }
 }

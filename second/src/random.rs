@@ -1,6 +1,8 @@
 //! A small generator of random numbers that gives the same numbers for the same seed everywhere:
 //! splitmix64.
 
+use crate::PANELS;
+
 #[derive(Clone, Debug)]
 pub struct Random {
     state: u64,
@@ -39,6 +41,14 @@ impl Random {
 
     pub fn pick<T: Copy>(&mut self, from: &[T]) -> T {
         from[self.below(from.len())]
+    }
+
+    /// Any n, and t and writer that fit it.
+    pub(crate) fn sizes(&mut self) -> (u8, u8, u8) {
+        let n = self.between(1, PANELS as u8);
+        let t = self.between(0, (n - 1) / 2);
+        let writer = self.between(1, n);
+        (n, t, writer)
     }
 
     /// A setpoint value, now and then one of the ends.

@@ -7,7 +7,7 @@ use crate::refusal::Refusal;
 pub const LENGTHS: [usize; 9] = [7, 4, 1, 2, 2, 2, 2, 1, 0];
 
 /// Record kinds 3 to 6 stand for the wire kinds 0 to 3.
-pub const FIRST_DELIVERY: u8 = 3;
+const FIRST_DELIVERY: u8 = 3;
 
 #[derive(Clone, Copy, PartialEq, Eq, Debug)]
 pub enum Record {

@@ -12,17 +12,17 @@ use crate::PANELS;
 pub const PANEL_BYTES: usize = 1566;
 pub const NETWORK_BYTES: usize = PANELS * PANEL_BYTES + PANELS + PANELS * PANELS * 12;
 
-pub fn panel_to_bytes(panel: &Panel) -> Vec<u8> {
+pub fn panel_to_bytes(panel: &Panel) -> [u8; PANEL_BYTES] {
     let mut bytes = Vec::with_capacity(PANEL_BYTES);
     push_panel(panel, &mut bytes);
-    bytes
+    bytes.try_into().expect("a panel's length")
 }
 
 pub fn panel_from_bytes(bytes: &[u8; PANEL_BYTES]) -> Panel {
     take_panel(&mut Source { rest: bytes })
 }
 
-pub fn network_to_bytes(network: &Network) -> Vec<u8> {
+pub fn network_to_bytes(network: &Network) -> [u8; NETWORK_BYTES] {
     let mut bytes = Vec::with_capacity(NETWORK_BYTES);
     for panel in &network.panels {
         push_panel(panel, &mut bytes);
@@ -34,7 +34,7 @@ pub fn network_to_bytes(network: &Network) -> Vec<u8> {
         }
         bytes.extend([channel.reads, channel.proceeds]);
     }
-    bytes
+    bytes.try_into().expect("a network's length")
 }
 
 pub fn network_from_bytes(bytes: &[u8; NETWORK_BYTES]) -> Network {

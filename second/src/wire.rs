@@ -2,10 +2,10 @@
 
 use crate::refusal::Refusal;
 
-pub const WRITE0: u8 = 0;
-pub const WRITE1: u8 = 1;
-pub const READ: u8 = 2;
-pub const PROCEED: u8 = 3;
+pub(crate) const WRITE0: u8 = 0;
+pub(crate) const WRITE1: u8 = 1;
+pub(crate) const READ: u8 = 2;
+pub(crate) const PROCEED: u8 = 3;
 
 /// A message read from the front of some bytes; the value is zero for READ and PROCEED.
 #[derive(Clone, Copy, PartialEq, Eq, Debug)]

@@ -1,9 +1,10 @@
 //! Schedules written in hex, and the program that turns them into bytes.
 
+mod running;
+
 use second::hex::{bytes, Fault};
-use std::io::Write;
 use std::path::Path;
-use std::process::{Command, Output, Stdio};
+use std::process::Output;
 
 fn refused(text: &str) -> (usize, String) {
     let Fault { line, word } = bytes(text.as_bytes()).expect_err(text);
@@ -47,16 +48,7 @@ fn anything_else_is_refused_with_its_line() {
 }
 
 fn run(arguments: &[&str], input: &[u8]) -> Output {
-    let mut child = Command::new(env!("CARGO_BIN_EXE_schedule-bytes"))
-        .args(arguments)
-        .stdin(Stdio::piped())
-        .stdout(Stdio::piped())
-        .stderr(Stdio::piped())
-        .spawn()
-        .unwrap();
-    // A program that wants no input may be gone before it is written.
-    let _written = child.stdin.take().unwrap().write_all(input);
-    child.wait_with_output().unwrap()
+    running::run(env!("CARGO_BIN_EXE_schedule-bytes"), arguments, input)
 }
 
 fn said(output: &Output) -> String {

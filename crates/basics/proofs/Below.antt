@@ -1,20 +1,19 @@
 -- The laws of the numbers below a bound.
 -- Assumes nothing.
 use mathlib.Core.Path.{_≡_, refl, sym, ap, ap₂, _∙_}
-use mathlib.Core.Bool.{Bool, true, false}
+use mathlib.Core.Bool.{Bool, true}
 use mathlib.Core.Logic.{_⊎_, inl, inr}
-use mathlib.Core.List.{List, [], _∷_, _++_, append-nil}
+use mathlib.Core.List.{[], _∷_, _++_}
 use Prim.Native.Nat.{ℕ, zero, suc, _+_, _≤_, _<_}
 use native.Mathlib.Numerals.{add-one}
-use native.Mathlib.Nat.{not-suc-le-zero}
+use native.Mathlib.Nat.{not-suc-le-zero, eq-or-lt-of-le}
 use native.Mathlib.Omega.{arith}
-use lib.Dec.{leb}
-use lib.ListN.{length, getD, set, length-append, List·getD-append}
-use lib.Seq.{getD-at, take-suc, take-length, ext-getD, set-at}
-use borrow.Author.Tests.{le-leb, lt-leb, leb-true, leb-false}
+use lib.ListN.{length, getD, length-append, List·getD-append}
+use lib.Seq.{getD-at}
 use Rattle.basics.specs.Choice.{both}
 use Rattle.basics.specs.Below.{oneIf, allBelow, countBelow, listBelow}
 use Rattle.basics.proofs.Choices.{both-left, both-right, both-true}
+use Rattle.basics.proofs.Ones.{one-most}
 
 -- ---- one more, as a loop's turn has it
 
@@ -29,12 +28,8 @@ count-next n f = ap (λ (m : ℕ). countBelow m f) (add-one n)
 -- ---- all
 
 -- either k is the last number below suc n, or it is below n
-last-or-below : {k n : ℕ} → k < suc n → (k ≡ n) ⊎ (k < n)
-last-or-below {k} {n} h = by (leb n k) refl
-  where
-    by : (b : Bool) → leb n k ≡ b → (k ≡ n) ⊎ (k < n)
-    by true e = let l : n ≤ k = leb-true _ _ e in inl (omega arith)
-    by false e = inr (leb-false _ _ e)
+pub last-or-below : {k n : ℕ} → k < suc n → (k ≡ n) ⊎ (k < n)
+last-or-below h = eq-or-lt-of-le (omega arith)
 
 pub all-at : (n : ℕ) (f : ℕ → Bool) → allBelow n f ≡ true → (k : ℕ) → k < n → f k ≡ true
 unfolding allBelow
@@ -57,15 +52,10 @@ all-alike (suc n) f g h = ap₂ both (all-alike n f g (λ k l. h k (omega arith)
 
 -- ---- how many
 
-oneIf-small : (b : Bool) → oneIf b ≤ 1
-unfolding oneIf
-oneIf-small true = omega arith
-oneIf-small false = omega arith
-
 pub count-most : (n : ℕ) (f : ℕ → Bool) → countBelow n f ≤ n
 unfolding countBelow
 count-most zero f = omega arith
-count-most (suc n) f = omega (arith, count-most n f, oneIf-small (f n))
+count-most (suc n) f = omega (arith, count-most n f, one-most (f n))
 
 pub count-alike : (n : ℕ) (f g : ℕ → Bool) → ((k : ℕ) → k < n → f k ≡ g k) → countBelow n f ≡ countBelow n g
 unfolding countBelow

@@ -26,6 +26,11 @@ clash {A} {b} f t = absurd (subst (λ (c : Bool). tell c) (sym f ∙ t) tt)
     tell true = ⊥
     tell false = Unit {0}
 
+-- what does not come out true comes out false
+pub not-so : {b : Bool} → (b ≡ true → ⊥) → b ≡ false
+not-so {b = true} h = absurd (h refl)
+not-so {b = false} h = refl
+
 pub both-left : (a b : Bool) → both a b ≡ true → a ≡ true
 unfolding both
 both-left true b h = refl

@@ -1,3 +1,5 @@
 pub mod Choices
+pub mod Ones
 pub mod Below
+pub mod Lists
 pub mod Refusals

@@ -10,6 +10,9 @@ pub record Trial : Type 0 where
   pub number : ℕ
   pub given : Bool
 
+abbrev pub refuse : ℕ → Bool → Trial
+refuse n b = record { number = n; given = b }
+
 unfoldable pub firstOf : List Trial → ℕ
 firstOf [] = 0
 firstOf (t ∷ ts) = ite (t .given) (t .number) (firstOf ts)

@@ -3,20 +3,13 @@
 use mathlib.Core.Path.{_≡_, refl, sym, ap, ap₂, _∙_}
 use mathlib.Core.List.{List, [], _∷_, _++_}
 use Prim.Native.Nat.{ℕ, zero, suc, _+_, _*_}
-use native.Mathlib.Nat.{add-zero}
 use native.Mathlib.Numerals.{add-one}
 use native.Mathlib.Omega.{arith}
 use lib.ListN.{length, length-append, set}
 use lib.Seq.{sets, length-sets}
+use Rattle.basics.proofs.Lists.{sets-append}
 use Rattle.carried.specs.Laid.{Laid}
 use Rattle.carried.specs.Panels.{rowsBelow}
-
--- writing what stands behind is writing at its place
-pub sets-append : (xs ys l : List ℕ) (i : ℕ) → sets l i (xs ++ ys) ≡ sets (sets l i xs) (i + length xs) ys
-sets-append [] ys l i = ap (λ (k : ℕ). sets l k ys) (sym (add-zero i))
-sets-append (x ∷ xs) ys l i =
-    let e : suc i + length xs ≡ i + suc (length xs) = omega arith in
-    sets-append xs ys (set l i x) (suc i) ∙ ap (λ (k : ℕ). sets (sets (set l i x) (suc i) xs) k ys) e
 
 pub laid-length : {l xs m : List ℕ} {i : ℕ} → Laid l i xs m → length m ≡ length l
 laid-length {l} {xs} {m} {i} h = ap length (h .is) ∙ length-sets l i xs

@@ -26,6 +26,7 @@ use Rattle.events.proofs.Kept as events
 use Rattle.panel.specs.declared.Panel.{Panel}
 use Rattle.panel.specs.Calls as panel
 use Rattle.promise.specs.View.{codeOf}
+use Rattle.promise.proofs.Happenings.{accepted}
 use Rattle.channels.specs.Channels.{has}
 use Rattle.house.specs.declared.Network.{Network}
 use Rattle.house.specs.Places.{panelAt, tablesAt, channelOf, writerOf}
@@ -42,7 +43,7 @@ use Rattle.steps.proofs.WholeDrain.{drained-kept}
 use Rattle.runs.specs.Runs.{Step, after, entries, writes, reads, deliveries}
 use Rattle.runs.specs.Claims.{Still, AllOrdinary, mostDeliveries}
 use Rattle.runs.proofs.FromFresh as run
-use Rattle.claims.proofs.Unchanged.{First, first-met, Rising, trials-rise, PanelUnchanged, panel-unchanged, panel-does}
+use Rattle.claims.proofs.Unchanged.{First, first-met, Rising, trials-rise, PanelUnchanged, panel-unchanged}
 use Rattle.claims.proofs.Unchanged as refused
 use Rattle.claims.proofs.InOrder.{allTrials, write-first, read-first, delivery-first}
 
@@ -95,7 +96,7 @@ drain-unchanged = refused.drain-unchanged
 -- ---- Demand 2. Each accepted step does exactly what Figure 1 says (rule), and then the operation is looked at.
 
 pub does-what-the-figure-says : (p : Tables) (room : ℕ) (e : Event) → refusal p room e ≡ 0 → happens p room e ≡ lookedAt (rule p e)
-does-what-the-figure-says = panel-does
+does-what-the-figure-says = accepted
 
 pub panel-stays-in-form : (p : Tables) → events.Good p → (room : ℕ) (e : Event) → events.Good (happens p room e .tables)
 panel-stays-in-form = events.kept

@@ -77,7 +77,7 @@ unfolding panel.nextOf panel.after panel.told panel.called panel.nothing panel.m
 panel-opened = tt
 
 search-opened : Unit {0}
-unfolding live firstBelow spotAt ofPair ofSender firstIn net.mayBeDown net.downs
+unfolding live firstBelow spotAt ofPair ofSender firstIn net.mayBeDown net.downsIn
 search-opened = tt
 
 steps-opened : Unit {0}

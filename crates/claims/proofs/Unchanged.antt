@@ -1,38 +1,37 @@
 -- "A refusal gives its number only and alters no table, channel or buffer", of every call; and the number is that of the first trial
 -- that applies, tried in the order of the list, from low to high.
 -- Assumes nothing.
-use Prim.Native.Nat.{ℕ, zero, suc, _+_, _-_, _≤_, _<_}
-use mathlib.Core.Path.{_≡_, refl, sym, ap, subst, _∙_}
+use Prim.Native.Nat.{ℕ, zero, suc, _+_, _-_, _<_}
+use mathlib.Core.Path.{_≡_, refl, sym, ap, _∙_}
 use mathlib.Core.Bool.{Bool, true, false}
-use mathlib.Core.List.{List, [], _∷_, _++_}
+use mathlib.Core.List.{List, [], _∷_}
 use mathlib.Core.Logic.{_≢_}
 use native.Mathlib.Omega.{arith}
-use lib.Dec.{eqb}
 use borrow.Author.Tests.{eqb-true}
 use Rattle.basics.specs.Choice.{ite}
 use Rattle.basics.specs.Refusal.{Trial, firstOf}
 use Rattle.basics.proofs.Choices.{ite-case}
 use lib.ListN.{length}
 use Rattle.messages.specs.Sends.{Message, messagesOf}
-use Rattle.messages.specs.Area.{Area, laid, laidIn, roomOf}
+use Rattle.messages.specs.Area.{Area, laidIn, roomOf}
+use Rattle.messages.proofs.Laying.{further-none}
 use Rattle.form.specs.declared.Tables.{Tables}
 use Rattle.refusals.specs.Refusals.{Event, firstTrials, peerTrials, writeTrials, readTrials, writeFromTrials, readFromTrials, proceedFromTrials, trials, refusal}
 use Rattle.refusals.specs.Refusals.Event.{write, read, writeFrom, readFrom, proceedFrom}
-use Rattle.events.specs.Events.{rule, lookedAt, happens}
-use Rattle.events.proofs.Happening.{happens-taken}
+use Rattle.events.specs.Events.{happens}
 use Rattle.panel.specs.declared.Panel.{Panel}
 use Rattle.panel.specs.declared.Next.{Next}
 use Rattle.panel.specs.Calls.{panelOf, told, called}
 use Rattle.promise.specs.View.{codeOf}
 use Rattle.promise.proofs.Happenings.{refused-tables, refused-messages}
 use Rattle.house.specs.declared.Network.{Network}
-use Rattle.house.specs.NetForm.{netForm}
 use Rattle.steps.specs.declared.Stepped.{Stepped}
 use Rattle.steps.specs.declared.Drained.{Drained}
 use Rattle.steps.specs.Numbers.{loadOf}
 use Rattle.steps.specs.Drain.{nextIn, drainBy, drainIn, drained}
+use Rattle.steps.proofs.Settling.{code-nothing}
 use Rattle.steps.proofs.Draining.{by-case}
-use Rattle.steps.specs.Steps.{refusedBy, tried, settled, checked, writeIn, readIn, deliverIn, loseIn, written, begun, delivered, lost}
+use Rattle.steps.specs.Steps.{tried, settled, checked, writeIn, readIn, deliverIn, loseIn, written, begun, delivered, lost}
 
 -- ---- the first trial that applies
 
@@ -62,12 +61,6 @@ trials-rise p room read = (omega arith, (omega arith, (omega arith, (omega arith
 trials-rise p room (writeFrom j b v) = (omega arith, (omega arith, (omega arith, (omega arith, tt))))
 trials-rise p room (readFrom j) = (omega arith, (omega arith, (omega arith, (omega arith, tt))))
 trials-rise p room (proceedFrom j) = (omega arith, (omega arith, (omega arith, (omega arith, tt))))
-
--- ---- a lent area that nothing is laid into
-
-pub none-laid : (a : Area) → laidIn 0 [] a ≡ a
-unfolding laidIn laid
-none-laid a = refl
 
 -- ---- the network
 
@@ -102,8 +95,8 @@ unfolding deliverIn
 deliver-unchanged s k i j = checked-unchanged s _ (tried-unchanged _ s _ (settled-unchanged s _ _ _))
 
 pub lose-unchanged : (s : Network) (i : ℕ) → Unchanged s (lost s i)
-unfolding loseIn codeOf
-lose-unchanged s i = checked-unchanged s _ (tried-unchanged _ s _ (λ n. absurd (n refl)))
+unfolding loseIn
+lose-unchanged s i = checked-unchanged s _ (tried-unchanged _ s _ (λ n. absurd (n code-nothing)))
 
 -- a drain, refused as a whole
 drain-keeps : (f : ℕ) (s₀ s : Network) (m : ℕ) → drainBy f s₀ s m .refusal ≢ 0 → drainBy f s₀ s m .network ≡ s₀
@@ -132,8 +125,5 @@ panel-unchanged p e a n =
     record {
       panel = ap (λ (t : Tables). panelOf t) (refused-tables (p .tables) (roomOf a) e n);
       count = ap length none;
-      area = ap (λ (ms : List Message). laidIn 0 ms a) none ∙ none-laid a;
+      area = ap (λ (ms : List Message). laidIn 0 ms a) none ∙ sym (further-none {l = record { count = 0; area = a }} .area-is);
     }
-
-pub panel-does : (p : Tables) (room : ℕ) (e : Event) → refusal p room e ≡ 0 → happens p room e ≡ lookedAt (rule p e)
-panel-does p room e z = sym (happens-taken p room e 0 (sym z) refl (rule p e) refl)

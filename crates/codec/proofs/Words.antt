@@ -1,13 +1,13 @@
 -- What the code of four-byte numbers needs: a number past the end, and the four bytes one by one.
 -- Assumes nothing.
-use mathlib.Core.Path.{_≡_, refl, sym, ap, ap₂, _∙_}
-use mathlib.Core.List.{List, [], _∷_}
+use mathlib.Core.Path.{_≡_, refl, ap₂, _∙_}
+use mathlib.Core.List.{List}
 use Prim.Native.Nat.{ℕ, zero, suc, _+_, _*_, _/_, _%_, _^_, _≤_}
 use native.Mathlib.Nat.{div-one, zero-mul, add-zero}
 use native.Mathlib.Numerals.{towards-suc}
 use native.Mathlib.Omega.{arith}
 use lib.ListN.{length, getD, set, List·getD-eq-default}
-use lib.Seq.{sets, set-out}
+use lib.Seq.{sets}
 use Rattle.codec.specs.Numbers.{bytesOf, numberAt}
 
 pub numberAt-past : (k : ℕ) (s : List ℕ) (at : ℕ) → length s ≤ at → numberAt k s at ≡ 0
@@ -17,10 +17,6 @@ numberAt-past (suc k) s at h =
     let none : getD s at 0 ≡ 0 = List·getD-eq-default s 0 h in
     let less : numberAt k s (suc at) ≡ 0 = numberAt-past k s (suc at) (omega arith) in
     ap₂ (λ (b m : ℕ). b * 256 ^ k + m) none less ∙ simp (zero-mul, add-zero)
-
-pub sets-past : (l : List ℕ) (at : ℕ) (vs : List ℕ) → length l ≤ at → sets l at vs ≡ l
-sets-past l at [] h = refl
-sets-past l at (v ∷ vs) h = ap (λ (m : List ℕ). sets m (suc at) vs) (set-out l at v h) ∙ sets-past l (suc at) vs (omega arith)
 
 pub word-by-bytes :
     (s : List ℕ) (at : ℕ) →

@@ -7,28 +7,28 @@ use mathlib.Core.Logic.{_≢_}
 use Prim.Native.Nat.{ℕ, zero, suc, _+_, _-_, _%_, _≤_, _<_}
 use native.Mathlib.Decide.{ℕ-discrete}
 use native.Mathlib.Omega.{arith}
-use lib.Dec.{eqb, ltb}
+use lib.Dec.{eqb}
 use lib.ListN.{length, getD, set}
-use borrow.Author.Tests.{eqb-true, ne-eqb, ltb-true}
-use Rattle.basics.specs.Choice.{ite}
-use Rattle.basics.specs.Below.{oneIf, countBelow, listBelow}
+use borrow.Author.Tests.{eqb-true, ltb-true}
+use Rattle.basics.specs.Below.{oneIf, countBelow}
 use Rattle.basics.proofs.Choices.{ite-case}
-use Rattle.basics.proofs.Below.{count-most, count-alike, getD-listBelow}
+use Rattle.basics.proofs.Below.{count-alike}
+use Rattle.basics.proofs.Ones.{one, nought, nought-apart}
 use Rattle.messages.specs.declared.Cast.{Cast}
 use Rattle.messages.specs.declared.Sends.{Sends}
 use Rattle.messages.specs.Sends.{Message, castOf, messagesOf, noCast}
-use Rattle.messages.proofs.Messages.{length-messages, cast-most, length-cast, cast-of-none}
+use Rattle.messages.proofs.Messages.{length-messages, messages-most, cast-most, length-cast, cast-of-none}
 use Rattle.tables.specs.declared.Line.{Line}
 use Rattle.tables.specs.Places.{wAt, holdAt, lineAt, noHold}
 use Rattle.tables.specs.Marks.{onlyPlace}
 use Rattle.tables.specs.Lines.{leaving}
-use Rattle.tables.proofs.Form.{LineForm}
+use Rattle.tables.proofs.Form.{level-empty}
+use Rattle.tables.proofs.Marks.{only-at}
 use Rattle.tables.proofs.Lines.{leaving-most}
 use Rattle.form.specs.declared.Tables.{Tables}
 use Rattle.form.specs.Setting.{ownPlace, ownW, setHeld}
 use Rattle.form.proofs.Stores.{w-set, w-set-ne}
-use Rattle.form.proofs.InForm.{InForm, form-view}
-use Rattle.form.proofs.Shape.{Shaped}
+use Rattle.form.proofs.InForm.{InForm}
 use Rattle.events.specs.declared.Took.{Took}
 use Rattle.events.specs.declared.Ruled.{Ruled}
 use Rattle.refusals.specs.Refusals.{Event, trials, refusal}
@@ -42,21 +42,10 @@ use Rattle.events.proofs.Running.{take-keeps, held-keeps}
 
 -- ---- a cast to one place
 
-one : oneIf true ≡ 1
-unfolding oneIf
-one = refl
-
-none : oneIf false ≡ 0
-unfolding oneIf
-none = refl
-
 none-below : (n k : ℕ) → n ≤ k → countBelow n (λ (j : ℕ). eqb j k) ≡ 0
-unfolding countBelow oneIf
+unfolding countBelow
 none-below zero k h = refl
-none-below (suc n) k h =
-    let lower : countBelow n (λ (j : ℕ). eqb j k) ≡ 0 = none-below n k (omega arith) in
-    let no : eqb n k ≡ false = ne-eqb n k (omega arith) in
-    ap₂ _+_ lower (ap oneIf no)
+none-below (suc n) k h = ap₂ _+_ (none-below n k (omega arith)) (nought-apart {m = n} {k = k} (omega arith))
 
 one-place : (n k : ℕ) → countBelow n (λ (j : ℕ). eqb j k) ≤ 1
 unfolding countBelow
@@ -65,37 +54,17 @@ one-place (suc n) k = by (eqb n k) refl (one-place n k)
   where
     by : (b : Bool) → eqb n k ≡ b → countBelow n (λ (j : ℕ). eqb j k) ≤ 1 → countBelow n (λ (j : ℕ). eqb j k) + oneIf b ≤ 1
     by true e l = let z : countBelow n (λ (j : ℕ). eqb j k) ≡ 0 = none-below n k (let s : n ≡ k = eqb-true _ _ e in omega arith) in omega (arith, one)
-    by false e l = omega (arith, none)
+    by false e l = omega (arith, nought)
 
 only-one : (k kind value : ℕ) → length (castOf (record { to = onlyPlace k; kind = kind; value = value })) ≤ 1
-unfolding onlyPlace
 only-one k kind value =
-    let c : Cast = record { to = listBelow 7 (λ (j : ℕ). eqb j k); kind = kind; value = value } in
-    let same = count-alike 7 (λ (j : ℕ). getD (listBelow 7 (λ (i : ℕ). eqb i k)) j false) (λ (j : ℕ). eqb j k) (λ j h. getD-listBelow 7 (λ (i : ℕ). eqb i k) j false h) in
-    omega (arith, length-cast c, same, one-place 7 k)
+    let c : Cast = record { to = onlyPlace k; kind = kind; value = value } in
+    omega (arith, length-cast c, count-alike 7 (λ (j : ℕ). getD (onlyPlace k) j false) (λ (j : ℕ). eqb j k) (only-at k), one-place 7 k)
 
 none-sent : length (castOf noCast) ≡ 0
 none-sent = ap (λ (ms : List Message). length ms) cast-of-none
 
--- what two casts and a count of PROCEEDs come to
-all-sent : (s : Sends) → length (messagesOf s) ≤ 14 + s .proceeds
-all-sent s = omega (arith, length-messages s, cast-most (s .own), cast-most (s .held))
-
 -- ---- a WRITE that is taken
-
--- a line is empty where the peer has reached the panel itself
-line-empty : (p : Tables) (k : ℕ) → InForm p → k < 7 → wAt (p .w) k ≡ ownW p → lineAt (p .lines) k .len ≡ 0
-line-empty p k f h e = by (lineAt (p .lines) k .len) refl
-  where
-    g : LineForm (lineAt (p .lines) k) (wAt (p .w) k) (ownW p)
-    g = f .place k h .line
-
-    by : (n : ℕ) → lineAt (p .lines) k .len ≡ n → n ≡ 0
-    by zero s = refl
-    by (suc n) s =
-        let above : wAt (p .w) k < wAt (lineAt (p .lines) k .sn) 0 = g .above 0 (omega arith) in
-        let within : wAt (lineAt (p .lines) k .sn) 0 ≤ ownW p = g .within 0 (omega arith) in
-        absurd (omega arith)
 
 module _ (p : Tables) (k v : ℕ) (f : InForm p) (at : k < 7) where
   lines-stay : lineAt (takeHeld (take p k v .tables) k .tables .lines) k ≡ lineAt (p .lines) k
@@ -149,13 +118,13 @@ module _ (p : Tables) (k v : ℕ) (f : InForm p) (at : k < 7) where
     take-fits = by (ℕ-discrete (wAt (p .w) k) (ownW p))
       where
         by : Dec (wAt (p .w) k ≡ ownW p) → length (messagesOf (takeRule p k v .sends)) ≤ 107
-        by (yes e) = omega (arith, all-sent (takeRule p k v .sends), proceeds-most, line-empty p k f at e)
+        by (yes e) = omega (arith, messages-most (takeRule p k v .sends), proceeds-most, level-empty (f .place k at .line) e)
         by (no n) = let short : lineAt (p .lines) k .len ≤ 100 = f .place k at .line .short in omega (arith, length-messages (takeRule p k v .sends), proceeds-most, both-few n)
 
 -- ---- every event
 
 small : (s : Sends) → s .proceeds ≤ 1 → length (messagesOf s) ≤ 107
-small s h = omega (arith, all-sent s)
+small s h = omega (arith, messages-most s)
 
 hold-small : (p : Tables) (k v : ℕ) → holdRule p k v .sends .proceeds ≤ 1
 unfolding holdRule

@@ -1,34 +1,22 @@
 -- A fresh panel is in form, whatever n, t, writer, number and initial value set-up takes.
 -- Assumes nothing.
 use mathlib.Core.Path.{_≡_, refl, sym, ap, subst, _∙_}
-use mathlib.Core.Bool.{Bool, true, false}
-use mathlib.Core.List.{List}
-use Prim.Native.Nat.{ℕ, _-_, _≤_, _<_}
-use native.Mathlib.Decide.{decLt}
+use mathlib.Core.Bool.{true, false}
+use Prim.Native.Nat.{ℕ, _-_, _<_}
 use native.Mathlib.Omega.{arith}
 use lib.Dec.{eqb}
-use lib.ListN.{length, getD, set, replicate, length-replicate, getD-replicate, List·getD-eq-default}
+use lib.ListN.{replicate, getD-replicate}
 use lib.Seq.{getD-set-other}
-use borrow.Author.Tests.{leb-true}
-use Rattle.basics.proofs.Choices.{clash, both-left, both-right}
+use Rattle.basics.proofs.Lists.{getD-same}
 use Rattle.tables.specs.declared.WriteNo.{WriteNo}
 use Rattle.tables.specs.declared.ReadNo.{ReadNo}
 use Rattle.tables.specs.declared.Hold.{Hold}
 use Rattle.tables.specs.declared.Line.{Line}
 use Rattle.tables.specs.Places.{wAt, rAt, holdAt, lineAt, noWrite, noRead, noHold, noLine}
-use Rattle.tables.proofs.Form.{LineForm, HoldForm}
-use Rattle.form.specs.declared.Tables.{Tables}
-use Rattle.form.specs.Setting.{ownW, ownR}
+use Rattle.tables.proofs.Form.{LineForm}
 use Rattle.form.specs.Form.{fits, isPanel, atWriter, operationOk, emptyLine, fresh}
-use Rattle.form.proofs.InForm.{InForm, PlaceForm, fits-view}
-use Rattle.form.proofs.Places.{empty-hold}
-
-getD-same : {A : Type 0} (n : ℕ) (a : A) (j : ℕ) → getD (replicate n a) j a ≡ a
-getD-same n a j = by (decLt j n)
-  where
-    by : Dec (j < n) → getD (replicate n a) j a ≡ a
-    by (yes h) = getD-replicate n j a a h
-    by (no h) = List·getD-eq-default (replicate n a) a (omega (arith, length-replicate n a))
+use Rattle.form.proofs.InForm.{InForm, PlaceForm, fits-view, panel-iff}
+use Rattle.form.proofs.Places.{empty-hold, empty-line}
 
 zero-w : (j : ℕ) → wAt (replicate 7 noWrite) j ≡ 0
 zero-w j = ap (λ (x : WriteNo). x .0) (getD-same 7 noWrite j)
@@ -38,22 +26,15 @@ zero-r j = ap (λ (x : ReadNo). x .0) (getD-same 7 noRead j)
 
 empty-form : (low high : ℕ) → LineForm emptyLine low high
 unfolding emptyLine
-empty-form low high =
-    record {
-      short = omega arith;
-      above = λ k h. absurd (omega arith);
-      within = λ k h. absurd (omega arith);
-      rising = λ k m h i. absurd (omega arith);
-      zero-past = λ k h i. ap (λ (x : WriteNo). x .0) (getD-same 100 noWrite k);
-    }
+empty-form low high = empty-line emptyLine low high refl (λ k _ _. ap (λ (x : WriteNo). x .0) (getD-same 100 noWrite k))
 
 pub fresh-form : (n t writer number v : ℕ) → fits n t writer ≡ true → isPanel n number ≡ true → InForm (fresh n t writer number v)
-unfolding fresh isPanel operationOk emptyLine atWriter
+unfolding fresh operationOk emptyLine atWriter
 fresh-form n t writer number v f h =
     record {
       sizes = fits-view n t writer f;
-      number-low = leb-true _ _ (both-left _ _ h);
-      number-high = leb-true _ _ (both-right _ _ h);
+      number-low = panel-iff n number .0 h .0;
+      number-high = panel-iff n number .0 h .1;
       w-top = omega (arith, zero-w (number - 1));
       r-top = omega (arith, zero-r (number - 1));
       place = λ j l. place j l;

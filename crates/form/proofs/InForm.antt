@@ -1,23 +1,21 @@
 -- In form, as a test that computes and as a record that proofs use, with a law each way.
 -- Assumes nothing.
-use mathlib.Core.Path.{_≡_, refl, sym, ap, _∙_}
+use mathlib.Core.Path.{_≡_, refl, sym, _∙_}
 use mathlib.Core.Bool.{Bool, true, false}
-use mathlib.Core.List.{List}
+use mathlib.Core.Logic.{_↔_}
 use Prim.Native.Nat.{ℕ, _+_, _-_, _*_, _≤_, _<_}
 use native.Mathlib.Omega.{arith}
-use lib.Dec.{leb, ltb, eqb}
-use lib.ListN.{length, getD}
-use borrow.Author.Tests.{ltb-true, leb-true, leb-false, eqb-true, lt-ltb, le-leb, eq-eqb, ne-eqb, lt-leb}
+use lib.Dec.{leb, eqb}
+use lib.ListN.{getD}
+use borrow.Author.Tests.{ltb-true, leb-true, eqb-true, lt-ltb, le-leb, eq-eqb}
 use Rattle.basics.specs.Choice.{ite, both}
-use Rattle.basics.specs.Below.{allBelow}
 use Rattle.basics.proofs.Choices.{ite-true, ite-false, ite-case, both-left, both-right, both-true}
 use Rattle.basics.proofs.Below.{all-at, all-of}
 use Rattle.tables.specs.declared.Hold.{Hold}
 use Rattle.tables.specs.declared.Line.{Line}
 use Rattle.tables.specs.Places.{wAt, rAt, holdAt, lineAt}
-use Rattle.tables.specs.Form.{holdOk, lineOk, quietOk, historyOk}
+use Rattle.tables.specs.Form.{quietOk}
 use Rattle.tables.proofs.Form.{LineForm, lineOk-iff, HoldForm, holdOk-iff, quietOk-iff, historyOk-iff}
-use Rattle.form.specs.declared.Operation.{Operation}
 use Rattle.form.specs.declared.Tables.{Tables}
 use Rattle.form.specs.Setting.{ownW, ownR}
 use Rattle.form.specs.Form.{fits, isPanel, atWriter, placeWith, placeOk, operationOk, inForm}
@@ -49,6 +47,11 @@ fits-of n t writer f =
     both-true (le-leb _ _ (f .n-low))
     (both-true (le-leb _ _ (f .n-high))
     (both-true (lt-ltb _ _ (f .t-small)) (both-true (le-leb _ _ (f .writer-low)) (le-leb _ _ (f .writer-high)))))
+
+-- a panel's number in 1..n
+pub panel-iff : (n j : ℕ) → (isPanel n j ≡ true) ↔ ((1 ≤ j) × (j ≤ n))
+unfolding isPanel
+panel-iff n j = (λ e. (leb-true _ _ (both-left _ _ e), leb-true _ _ (both-right _ _ e)), λ h. both-true (le-leb _ _ (h .0)) (le-leb _ _ (h .1)))
 
 -- ---- one place
 
@@ -116,7 +119,7 @@ pub record InForm (p : Tables) : Type 0 where
   pub operation-form : operationOk (p .operation) (atWriter p) (ownW p) (ownR p) ≡ true
 
 pub form-view : (p : Tables) → inForm p ≡ true → InForm p
-unfolding inForm isPanel
+unfolding inForm
 form-view p h =
     let h1 = both-right _ _ h in
     let h2 = both-right _ _ h1 in
@@ -125,8 +128,8 @@ form-view p h =
     let h5 = both-right _ _ h4 in
     record {
       sizes = fits-view _ _ _ (both-left _ _ h);
-      number-low = leb-true _ _ (both-left _ _ (both-left _ _ h1));
-      number-high = leb-true _ _ (both-right _ _ (both-left _ _ h1));
+      number-low = panel-iff _ _ .0 (both-left _ _ h1) .0;
+      number-high = panel-iff _ _ .0 (both-left _ _ h1) .1;
       w-top = leb-true _ _ (both-left _ _ h2);
       r-top = leb-true _ _ (both-left _ _ h3);
       place = λ j l. place-view p j (all-at 7 (placeOk p) (both-left _ _ h4) j l);
@@ -135,10 +138,10 @@ form-view p h =
     }
 
 pub form-of : (p : Tables) → InForm p → inForm p ≡ true
-unfolding inForm isPanel
+unfolding inForm
 form-of p f =
     both-true (fits-of _ _ _ (f .sizes))
-    (both-true (both-true (le-leb _ _ (f .number-low)) (le-leb _ _ (f .number-high)))
+    (both-true (panel-iff _ _ .1 (f .number-low, f .number-high))
     (both-true (le-leb _ _ (f .w-top))
     (both-true (le-leb _ _ (f .r-top))
     (both-true (all-of 7 (placeOk p) (λ j l. place-of p j (f .place j l)))

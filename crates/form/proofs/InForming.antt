@@ -1,21 +1,19 @@
 -- The ways out of the test of form, for its code.
 -- Assumes nothing.
-use mathlib.Core.Path.{_≡_, sym, ap, ap₂, _∙_}
-use mathlib.Core.Bool.{Bool, true, false}
-use Prim.Native.Nat.{ℕ, _-_, _≤_, _<_}
+use mathlib.Core.Path.{_≡_}
+use mathlib.Core.Bool.{true, false}
+use Prim.Native.Nat.{ℕ, _-_, _≤_}
 use native.Mathlib.Omega.{arith}
 use lib.Dec.{leb}
-use borrow.Author.Tests.{leb-true}
 use Rattle.basics.specs.Choice.{both}
 use Rattle.basics.specs.Below.{allBelow}
-use Rattle.basics.proofs.Choices.{both-left, both-right, both-false-left, both-false-right}
+use Rattle.basics.proofs.Choices.{both-false-left, both-false-right}
 use Rattle.tables.specs.Places.{wAt, rAt}
 use Rattle.tables.specs.Form.{historyOk}
 use Rattle.form.specs.declared.Tables.{Tables}
-use Rattle.form.specs.Setting.{ownW, ownR}
 use Rattle.form.specs.Form.{fits, isPanel, atWriter, placeOk, operationOk, inForm}
 use Rattle.form.specs.Asked.{Sized}
-use Rattle.form.proofs.InForm.{fits-view}
+use Rattle.form.proofs.InForm.{fits-view, panel-iff}
 
 pub not-fitting : (p : Tables) → fits (p .n) (p .t) (p .writer) ≡ false → inForm p ≡ false
 unfolding inForm
@@ -26,11 +24,10 @@ unfolding inForm
 not-numbered p h = both-false-right _ (both-false-left _ h)
 
 pub sized-by : (p : Tables) → fits (p .n) (p .t) (p .writer) ≡ true → isPanel (p .n) (p .number) ≡ true → Sized p
-unfolding isPanel
 sized-by p f h =
-    let high : p .number ≤ p .n = leb-true _ _ (both-right _ _ h) in
+    let at : (1 ≤ p .number) × (p .number ≤ p .n) = panel-iff _ _ .0 h in
     let most : p .n ≤ 7 = fits-view _ _ _ f .n-high in
-    record { low = leb-true _ _ (both-left _ _ h); high = omega arith }
+    record { low = at .0; high = omega arith }
 
 -- i is the panel's number as the code holds it
 pub whole-form :

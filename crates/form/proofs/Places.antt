@@ -1,14 +1,13 @@
 -- How one place stays in form when numbers grow, and when nothing is held or waiting there.
 -- Assumes nothing.
-use mathlib.Core.Path.{_≡_, refl, sym, ap, subst, _∙_}
-use mathlib.Core.Bool.{Bool, true, false}
+use mathlib.Core.Path.{_≡_}
+use mathlib.Core.Bool.{Bool, false}
 use Prim.Native.Nat.{ℕ, _+_, _≤_, _<_}
-use native.Mathlib.Nat.{not-suc-le-zero}
 use native.Mathlib.Omega.{arith}
 use Rattle.basics.proofs.Choices.{clash}
 use Rattle.tables.specs.declared.Hold.{Hold}
 use Rattle.tables.specs.declared.Line.{Line}
-use Rattle.tables.specs.Places.{noHold}
+use Rattle.tables.specs.Places.{wAt}
 use Rattle.tables.proofs.Form.{LineForm, HoldForm}
 use Rattle.tables.proofs.Lines.{raised-form}
 use Rattle.form.proofs.InForm.{PlaceForm}
@@ -25,18 +24,16 @@ pub empty-hold : (h : Hold) (low high : ℕ) (lead : Bool) → h .full ≡ false
 empty-hold h low high lead e z =
     record { next-exists = λ t. clash e t; next-written = λ t w. clash e t; empty-zero = λ _. z }
 
-pub empty-line : (l : Line) (low high low′ high′ : ℕ) → LineForm l low high → l .len ≡ 0 → LineForm l low′ high′
-empty-line l low high low′ high′ f z =
+pub empty-line :
+    (l : Line) (low high : ℕ) → l .len ≡ 0 → ((k : ℕ) → l .len ≤ k → k < 100 → wAt (l .sn) k ≡ 0) → LineForm l low high
+empty-line l low high z zeros =
     record {
-      short = f .short;
-      above = λ k h. absurd (none k h);
-      within = λ k h. absurd (none k h);
-      rising = λ k m h i. absurd (none m i);
-      zero-past = f .zero-past;
+      short = omega arith;
+      above = λ k h. absurd (omega arith);
+      within = λ k h. absurd (omega arith);
+      rising = λ k m h i. absurd (omega arith);
+      zero-past = zeros;
     }
-  where
-    none : (k : ℕ) → k < l .len → ⊥
-    none k h = omega arith
 
 module _ (n number j : ℕ) {wj wi rj ri : ℕ} {h : Hold} {l : Line} {lead : Bool} (f : PlaceForm n number j wj wi rj ri h l lead) where
   -- the panel's own numbers grow
@@ -59,7 +56,7 @@ module _ (n number j : ℕ) {wj wi rj ri : ℕ} {h : Hold} {l : Line} {lead : Bo
         w-below = a;
         r-below = b;
         hold = empty-hold h wj′ wi′ lead (f .own-quiet e .0) (f .hold .empty-zero (f .own-quiet e .0));
-        line = empty-line l wj wi wj′ wi′ (f .line) (f .own-quiet e .1);
+        line = empty-line l wj′ wi′ (f .own-quiet e .1) (f .line .zero-past);
         own-quiet = f .own-quiet;
         past-quiet = f .past-quiet;
         past-zero = λ p. absurd (omega arith);

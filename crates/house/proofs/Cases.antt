@@ -48,7 +48,7 @@ told : Found → List ℕ
 told m = ite (m .any) (m .sender ∷ m .receiver ∷ m .kind ∷ []) []
 
 forms : List Bool
-unfolding panel three sending two ite both oneIf allBelow countBelow entryOk lineOk holdOk quietOk unknownOk historyOk fits isPanel atWriter placeWith placeOk operationOk inForm emptyLine fresh unused.entryZero unused.valueZero unused.lineUnused unused.historyUnused unused.placeWith unused.placeUnused unused.idle unused.unused valueOf byKind inFlight has slotOk channelOk channelEmpty leads rowPlaceOk rowOk emptyRow withChannel net.mayBeDown net.downs net.memberWith net.placeOk net.channelsOk net.netForm
+unfolding panel three sending two ite both oneIf allBelow countBelow entryOk lineOk holdOk quietOk unknownOk historyOk fits isPanel atWriter placeWith placeOk operationOk inForm emptyLine fresh unused.entryZero unused.valueZero unused.lineUnused unused.historyUnused unused.placeWith unused.placeUnused unused.idle unused.unused valueOf byKind inFlight has slotOk channelOk channelEmpty leads rowPlaceOk rowOk emptyRow withChannel net.mayBeDown net.downsIn net.memberWith net.placeOk net.channelsOk net.netForm
 forms =
     net.netForm three
     ∷ net.netForm two

@@ -13,7 +13,7 @@ use Rattle.channels.specs.declared.Row.{Row}
 use Rattle.channels.specs.Channels.{rowOk}
 use Rattle.house.specs.declared.Network.{Network}
 use Rattle.house.specs.Places.{tablesAt, rowAt, downAt, nOf, tOf, writerOf, initialOf, withPanel, withRow, withDown}
-use Rattle.house.specs.NetForm.{mayBeDown, downs}
+use Rattle.house.specs.NetForm.{mayBeDown, downsIn, downs}
 use Rattle.house.specs.Whole.{Whole}
 use Rattle.house.proofs.NetForms.{Member, FormedAs, Formed, formed}
 use Rattle.house.proofs.Stores.{panel-with-panel, panel-with-panel-ne, row-with-row, row-with-row-ne, down-with-down, down-with-down-ne, downs-with-panel-kept, downs-with-row-kept, downs-with-down}
@@ -82,7 +82,7 @@ form-with-row s whole f i r ok =
 
 -- one that is down already stays so
 downs-again : (s : Network) (i : ℕ) → Whole s → i < 7 → downAt s i ≡ true → downs (withDown s i) ≡ downs s
-unfolding downs
+unfolding downsIn
 downs-again s i whole h off = count-alike 7 (downAt (withDown s i)) (downAt s) (λ k l. at k (ℕ-discrete k i))
   where
     at : (k : ℕ) → Dec (k ≡ i) → downAt (withDown s i) k ≡ downAt s k

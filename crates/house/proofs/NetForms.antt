@@ -23,7 +23,7 @@ use Rattle.events.specs.Rules.{valueOf}
 use Rattle.channels.specs.Channels.{rowOk}
 use Rattle.house.specs.declared.Network.{Network}
 use Rattle.house.specs.Places.{tablesAt, rowAt, downAt, nOf, tOf, writerOf, initialOf}
-use Rattle.house.specs.NetForm.{mayBeDown, downs, memberWith, placeOk, channelsOk, netForm}
+use Rattle.house.specs.NetForm.{mayBeDown, downsIn, downs, memberWith, placeOk, channelsOk, netForm}
 use Rattle.house.specs.Search.{live}
 
 -- ---- one panel of a network
@@ -142,7 +142,7 @@ module _ (s : Network) (f : Formed s) where
 
   -- the live panels are enough
   pub live-enough : enough (nOf s) (tOf s) (live s) ≡ true
-  unfolding among downs live
+  unfolding among downsIn live
   live-enough =
       all-but-t (nOf s) (tOf s) (f .n-high) (live s)
       (le-trans (count-more 7 (among (nOf s) (λ (j : ℕ). not (live s j))) (downAt s) (λ k l e. twice (downAt s k) (both-right _ _ e))) few-down)

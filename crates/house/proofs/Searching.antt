@@ -17,7 +17,7 @@ use Rattle.channels.proofs.Flying.{has-iff, none-empty}
 use Rattle.house.specs.declared.Network.{Network}
 use Rattle.house.specs.declared.Found.{Found}
 use Rattle.house.specs.Places.{rowAt, channelOf, nOf}
-use Rattle.house.specs.Search.{live, firstBelow, spotAt, ofPair, ofSender, firstIn}
+use Rattle.house.specs.Search.{live, firstBelow, spotAt, ofPair, ofSender, firstIn, flying}
 use Rattle.house.proofs.NetForms.{Formed}
 use Rattle.house.proofs.Turns.{first-none, first-step, spot}
 
@@ -192,3 +192,9 @@ found-pair s f e = by (found s e)
           receiver-high = omega (arith, b .receiver-within);
           apart = λ q. b .apart (ap (λ (x : ℕ). x - 1) q);
         }
+
+-- ---- the search looks at nothing but the channels and who is down
+
+pub by-flying : (s : Network) → firstIn (flying (s .rows) (s .down)) ≡ firstIn s
+unfolding firstIn ofSender ofPair spotAt live
+by-flying s = refl

@@ -19,7 +19,7 @@ use Rattle.channels.specs.declared.Row.{Row}
 use Rattle.channels.specs.Channels.{noRow, noChannel}
 use Rattle.house.specs.declared.Network.{Network}
 use Rattle.house.specs.Places.{nobody, panelAt, tablesAt, rowAt, downAt, channelOf, withPanel, withRow, withDown}
-use Rattle.house.specs.NetForm.{downs}
+use Rattle.house.specs.NetForm.{downsIn, downs}
 use Rattle.house.specs.Whole.{Whole}
 
 -- ---- past the last place nothing stands and nothing is put
@@ -146,14 +146,14 @@ count-one-more (suc n) f g i h same off on = at (ℕ-discrete n i) (count-one-mo
 
 module _ (s : Network) (i : ℕ) where
   pub downs-with-panel-kept : (p : Panel) → downs (withPanel s i p) ≡ downs s
-  unfolding downs
+  unfolding downsIn
   downs-with-panel-kept p = refl
 
   pub downs-with-row-kept : (r : Row) → downs (withRow s i r) ≡ downs s
-  unfolding downs
+  unfolding downsIn
   downs-with-row-kept r = refl
 
   pub downs-with-down : Whole s → i < 7 → downAt s i ≡ false → downs (withDown s i) ≡ downs s + 1
-  unfolding downs
+  unfolding downsIn
   downs-with-down whole h live =
       count-one-more 7 (downAt s) (downAt (withDown s i)) i h (λ k d. down-with-down-ne s i k d) live (down-with-down s whole i h)

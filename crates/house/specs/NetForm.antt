@@ -3,8 +3,10 @@
 -- and everything unused is zero."
 -- Assumes nothing.
 use Prim.Native.Nat.{ℕ, _+_}
-use mathlib.Core.Bool.{Bool, not}
+use mathlib.Core.Bool.{Bool, false, not}
+use mathlib.Core.List.{List}
 use lib.Dec.{leb, ltb, eqb}
+use lib.ListN.{getD}
 use Rattle.basics.specs.Choice.{ite, both}
 use Rattle.basics.specs.Below.{allBelow, countBelow}
 use Rattle.form.specs.declared.Tables.{Tables}
@@ -20,8 +22,11 @@ unfoldable pub mayBeDown : ℕ → ℕ → Bool
 mayBeDown t m = leb m t
 
 -- how many are down
-unfoldable pub downs : Network → ℕ
-downs s = countBelow 7 (downAt s)
+unfoldable pub downsIn : List Bool → ℕ
+downsIn down = countBelow 7 (λ (i : ℕ). getD down i false)
+
+abbrev pub downs : Network → ℕ
+downs s = downsIn (s .down)
 
 -- a panel of the network: in form, of the same n, t, writer and initial value, and in its place
 unfoldable pub memberWith : Tables → ℕ → ℕ → ℕ → ℕ → ℕ → Bool

@@ -2,7 +2,9 @@
 -- Assumes nothing.
 use Prim.Native.Nat.{ℕ, zero, suc, _+_}
 use mathlib.Core.Bool.{Bool, true, false, not}
+use mathlib.Core.List.{List, []}
 use Rattle.basics.specs.Choice.{ite, both}
+use Rattle.channels.specs.declared.Row.{Row}
 use Rattle.channels.specs.Channels.{has}
 use Rattle.house.specs.declared.Network.{Network}
 use Rattle.house.specs.declared.Found.{Found}
@@ -31,3 +33,7 @@ ofSender s i = firstBelow 7 (ofPair s i)
 
 unfoldable pub firstIn : Network → Found
 firstIn s = firstBelow 7 (ofSender s)
+
+-- what the search looks at: the channels, and who is down
+abbrev pub flying : List Row → List Bool → Network
+flying rows down = record { panels = []; rows = rows; down = down }

@@ -8,16 +8,13 @@ ghost use Rattle.basics.specs.Choice.{both};
 ghost use Rattle.basics.specs.Below.{allBelow, oneIf};
 ghost use Rattle.form.proofs.Shape.{Shaped};
 ghost use Rattle.unused.specs.Unused.{unused};
-ghost use Rattle.channels.specs.Channels.{noChannel};
-ghost use Rattle.house.specs.Places.{downAt, rowAt, tablesAt, channelOf, withPanel, withRow, withDown};
-ghost use Rattle.house.specs.NetForm.{memberWith, placeOk, channelsOk, downs, mayBeDown, netForm};
-ghost use Rattle.house.specs.Search.{firstIn};
+ghost use Rattle.house.specs.Places.{rowAt, tablesAt};
+ghost use Rattle.house.specs.NetForm.{memberWith, placeOk, channelsOk, downsIn, mayBeDown, netForm};
+ghost use Rattle.house.specs.Search.{flying, firstIn};
 ghost use Rattle.house.specs.Whole.{Whole};
-use channels::Channel;
 use channels::Row;
 use form::Tables;
 use panel::Panel;
-use tables::Hold;
 use tables::Line;
 use tables::both;
 use tables::wide;
@@ -108,10 +105,9 @@ fn rows_ok(s: Network) -> bool
 }
 
 // How many panels are down.
-pub fn downs(s: Network) -> usize
-    ensures { λ r. ⌜ (r ≡ downs s) × (r ≤ 7) ⌝ }
+pub fn downs(down: [bool; 7]) -> usize
+    ensures { λ r. ⌜ (r ≡ downsIn down) × (r ≤ 7) ⌝ }
 {
-    let down = s.down;
     let mut m = 0;
     let mut i = 0;
     while i < 7 {
@@ -133,8 +129,9 @@ pub fn in_form(s: Network) -> bool
 {
     let first = s.panels[0];
     let f = first.tables;
+    let down = s.down;
     let rows = rows_ok(s);
-    let few = may_be_down(f.t, downs(s));
+    let few = may_be_down(f.t, downs(down));
     let places = places_ok(s);
     both(1 <= f.n, both(places, both(few, rows)))
 }
@@ -143,74 +140,6 @@ fn one_if(b: bool) -> usize
     ensures { λ r. ⌜ (r ≡ oneIf b) × (r ≤ 1) ⌝ }
 {
     if b { 1 } else { 0 }
-}
-
-// ---- places
-
-pub fn down_at(s: Network, i: usize) -> bool
-    ensures { λ r. ⌜ r ≡ downAt s i ⌝ }
-{
-    if i < 7 { s.down[i] } else { false }
-}
-
-fn no_channel() -> Channel
-    ensures { λ c. ⌜ c ≡ noChannel ⌝ }
-{
-    let write0 = Hold {
-        full: false,
-        value: 0,
-    };
-    let write1 = Hold {
-        full: false,
-        value: 0,
-    };
-    Channel {
-        write0,
-        write1,
-        reads: 0,
-        proceeds: 0,
-    }
-}
-
-// The channel from place i to place j; an empty one where there is none.
-pub fn channel_of(s: Network, i: usize, j: usize) -> Channel
-    ensures { λ c. ⌜ c ≡ channelOf s i j ⌝ }
-{
-    if i < 7 {
-        let row = s.rows[i];
-        return channels::channel_to(row, j);
-    }
-    no_channel()
-}
-
-pub fn with_panel(s: Network, i: usize, p: Panel) -> Network
-    ensures { λ r. ⌜ r ≡ withPanel s i p ⌝ }
-{
-    let mut q = s;
-    if i < 7 {
-        q.panels[i] = p;
-    }
-    q
-}
-
-pub fn with_row(s: Network, i: usize, row: Row) -> Network
-    ensures { λ r. ⌜ r ≡ withRow s i row ⌝ }
-{
-    let mut q = s;
-    if i < 7 {
-        q.rows[i] = row;
-    }
-    q
-}
-
-pub fn with_down(s: Network, i: usize) -> Network
-    ensures { λ r. ⌜ r ≡ withDown s i ⌝ }
-{
-    let mut q = s;
-    if i < 7 {
-        q.down[i] = true;
-    }
-    q
 }
 
 // ---- the search
@@ -222,8 +151,8 @@ fn hit(down: bool, there: bool) -> bool
 }
 
 // The first message in flight to a live panel, by sender, then receiver, then kind.
-pub fn first_in_flight(s: Network) -> Found
-    ensures { λ r. ⌜ r ≡ firstIn s ⌝ }
+pub fn first_in_flight(rows: [Row; 7], down: [bool; 7]) -> Found
+    ensures { λ r. ⌜ r ≡ firstIn (flying rows down) ⌝ }
 {
     let mut at = Found {
         any: false,
@@ -233,14 +162,14 @@ pub fn first_in_flight(s: Network) -> Found
     };
     let mut from = 0;
     'search: while from < 7 {
-        let row = s.rows[from];
+        let row = rows[from];
         let mut to = 0;
         while to < 7 {
             let c = row.to[to];
-            let down = s.down[to];
+            let off = down[to];
             let mut kind = 0;
             while kind < 4 {
-                if hit(down, channels::has(c, kind)) {
+                if hit(off, channels::has(c, kind)) {
                     at = Found {
                         any: true,
                         sender: (from + 1) as u8,

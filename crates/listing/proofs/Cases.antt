@@ -32,7 +32,7 @@ use Rattle.channels.specs.Channels as channels
 use Rattle.channels.specs.Posting.{withChannel, fitsIn, post, posts, postedAll, taken}
 use Rattle.protocol.specs.Counts.{sumBelow, panelLoad, outLoad, load}
 use Rattle.promise.specs.View.{viewOf, codeOf}
-use Rattle.house.specs.NetForm.{mayBeDown, downs, memberWith, channelsOk, netForm}
+use Rattle.house.specs.NetForm.{mayBeDown, downsIn, memberWith, channelsOk, netForm}
 use Rattle.house.specs.NetForm as house
 use Rattle.house.specs.Search.{live, firstBelow, spotAt, ofPair, ofSender, firstIn}
 use Rattle.steps.specs.Steps.{tried, isPair, deliverTrials, loseTrials, settled, comes, writeIn, readIn, deliverIn, loseIn, checked}
@@ -56,7 +56,7 @@ unfolding
     writeRule readRule reached take takeHeld released takeRule holdRule readFromRule proceedRule lookWriting lookSecond lookFirst lookAs look
     rule refusedBy lookedAt happens nextOf after nothing made byKind inFlight has valueIn room channels.joined less slotOk channelOk
     channelEmpty leads rowPlaceOk rowOk emptyRow withChannel fitsIn post posts postedAll taken sumBelow panelLoad outLoad load viewOf codeOf
-    mayBeDown downs memberWith house.placeOk channelsOk netForm live firstBelow spotAt ofPair ofSender firstIn tried isPair steps.writeTrials
+    mayBeDown downsIn memberWith house.placeOk channelsOk netForm live firstBelow spotAt ofPair ofSender firstIn tried isPair steps.writeTrials
     steps.readTrials deliverTrials loseTrials settled comes writeIn readIn deliverIn loseIn checked loadOf nextIn drainBy drainIn drained
     freshNetwork setUp readsFrom readsOf shownBy tagOf numberOf entry unread told deliveryOf nextStep deliveriesBy drainEntries stepped entries
     next later first all textFrom wholeText listingOf

@@ -31,10 +31,9 @@ use Rattle.steps.proofs.WholeDrain.{sought-is, drained-none, drained-next}
 use Rattle.runs.proofs.Holding.{Holds}
 use Rattle.runs.proofs.Accepting.{next-ok}
 use Rattle.runs.proofs.Draining.{drain-taken}
-use Rattle.listing.specs.declared.Bench.{Bench}
 use Rattle.listing.specs.Reads.{readsOf}
 use Rattle.listing.specs.Entries.{entry, unread, told, deliveryOf, nextStep, deliveriesBy, drain, drainEntries, stepped, entries, next, later, first, all}
-use Rattle.listing.specs.Machine.{silent, stops, goesOn, drains, drainStep, drainLine, recordLine, nextLine, firstRecord, madeBy, opened}
+use Rattle.listing.specs.Machine.{Bench, silent, stops, goesOn, drains, drainStep, drainLine, recordLine, nextLine, firstRecord, madeBy, opened}
 use Rattle.listing.proofs.Reading.{readsAt, reads-end, reads-next, reads-last}
 use Rattle.listing.proofs.Placing.{Placed, placed, stepped-keeps, delivered-keeps, set-up-holds}
 use Rattle.listing.proofs.Placing as placing

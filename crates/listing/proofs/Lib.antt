@@ -6,5 +6,6 @@ pub mod Giving
 pub mod Laying
 pub mod LineByLine
 pub mod Turns
+pub mod Turned
 pub mod Answering
 pub mod Outcomes

@@ -14,12 +14,11 @@ use Rattle.text.specs.declared.Line.{Line}
 use Rattle.text.specs.Text.{firstLine, lineText}
 use Rattle.steps.specs.Search.{sought}
 use Rattle.runs.proofs.Holding.{Holds}
-use Rattle.listing.specs.declared.Bench.{Bench}
 use Rattle.listing.specs.Reads.{readsOf}
 use Rattle.listing.specs.Entries.{all}
 use Rattle.listing.specs.Listing.{numberedAs, textFrom, wholeText, longest}
 use Rattle.listing.specs.Putting.{Put}
-use Rattle.listing.specs.Machine.{drainStep, drainLine, recordLine, nextLine, firstRecord, opened}
+use Rattle.listing.specs.Machine.{Bench, drainStep, drainLine, recordLine, nextLine, firstRecord, opened}
 use Rattle.listing.proofs.Counting.{lines-most}
 use Rattle.listing.proofs.Giving.{behind, left, Gives, next-gives, opened-gives}
 use Rattle.listing.proofs.Laying.{sets-append}

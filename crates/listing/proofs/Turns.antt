@@ -1,4 +1,4 @@
--- One law for each case of the bench's next line, as the code comes to it.
+-- One law for each case of the bench's next turn, as the code comes to it.
 -- Assumes nothing.
 use mathlib.Core.Path.{_≡_, refl, sym, ap, ap₂, _∙_}
 use mathlib.Core.Bool.{true, false}
@@ -10,22 +10,22 @@ use lib.Dec.{leb}
 use lib.ListN.{length}
 use borrow.Author.Tests.{eq-eqb, ne-eqb, lt-ltb, le-ltb}
 use Rattle.basics.specs.Choice.{both}
-use Rattle.basics.proofs.Choices.{ite-true, ite-false, ite-case, clash}
+use Rattle.basics.proofs.Choices.{ite-true, ite-false}
 use Rattle.schedule.specs.declared.Record.{Record}
 use Rattle.schedule.specs.declared.Read.{Read}
 use Rattle.schedule.specs.Records.{reading}
 use Rattle.text.specs.declared.Line.{Line}
+use Rattle.events.specs.declared.Answer.{Answer}
 use Rattle.house.specs.declared.Network.{Network}
-use Rattle.house.specs.NetForm.{netForm}
+use Rattle.house.specs.declared.Found.{Found}
+use Rattle.house.specs.Search.{firstIn}
 use Rattle.house.proofs.Searching.{found}
-use Rattle.steps.specs.declared.Stepped.{Stepped}
-use Rattle.steps.specs.declared.Sought.{Sought}
 use Rattle.steps.specs.declared.Ready.{Ready}
-use Rattle.steps.specs.Steps.{written, begun, delivered, lost}
-use Rattle.steps.specs.Search.{sought}
-use Rattle.listing.specs.declared.Bench.{Bench}
-use Rattle.listing.specs.Entries.{shownBy, entry, unread, told, deliveryOf, drain, stepped}
-use Rattle.listing.specs.Machine.{silent, stops, goesOn, drains, drainStep, drainLine, recordLine, nextLine, firstRecord, madeBy, opened}
+use Rattle.listing.specs.declared.Stand.{Stand}
+use Rattle.listing.specs.declared.Turn.{Turn}
+use Rattle.listing.specs.Entries.{shownBy, entry, unread, told, deliveryOf, drain}
+use Rattle.listing.specs.Machine.{noLine, silent, stops, goesOn, firstRecord, madeBy, opened}
+use Rattle.listing.specs.Turning.{noMore, lastLine, onward, midDrain, withLine, quiet, steps, deliveryStep, stepOf, drainTurn, recordTurn, nextTurn, afterTurn}
 
 -- ---- panel numbers shown
 
@@ -54,101 +54,100 @@ unfolding entry
 entry-as r answer tag number e =
     ap (λ (k : ℕ). record { step = 0; kind = r .kind; shown = k; a = r .a; b = r .b; answer = answer; tag = tag; number = number }) e
 
--- ---- a drain
+-- ---- a drain: g is what the search finds, as the code holds it
 
-module _ (s : Network) (at count : ℕ) {q : Sought} (e : q ≡ sought s) where
-  as-found : drainStep s (q .found) at count ≡ drainLine s at count
-  unfolding drainLine
-  as-found = ap (λ (x : Sought). drainStep s (x .found) at count) e
+module _ (f : Found) (at count : ℕ) {g : Found} (e : g ≡ f) where
+  as-found : drainTurn g at count ≡ drainTurn f at count
+  as-found = ap (λ (x : Found). drainTurn x at count) e
 
-  pub drain-ends : {l : Line} → q .found .any ≡ false → l ≡ entry drain 0 100 count → goesOn s l at ≡ drainLine s at count
-  unfolding drainStep
-  drain-ends none is = ap (λ (x : Line). goesOn s x at) is ∙ sym (ite-false _ _ none) ∙ as-found
+  pub drain-ends : g .any ≡ false → quiet (onward (entry drain 0 100 count) at) ≡ drainTurn f at count
+  unfolding drainTurn
+  drain-ends none = sym (ite-false _ _ none) ∙ as-found
 
   pub drain-delivers :
-      {o : Stepped} {l : Line} → q .found .any ≡ true → o ≡ delivered s (q .found .kind) (q .found .sender) (q .found .receiver) →
-      l ≡ told (record { kind = q .found .kind + 3; a = q .found .sender; b = q .found .receiver; c = 0; value = 0 }) (o .answer) →
-      drains (o .network) l at (count + 1) ≡ drainLine s at count
-  unfolding drainStep deliveryOf
-  drain-delivers {o} any step is =
-      ap (λ (x : Line). drains (o .network) x at (count + 1)) is
-      ∙ ap (λ (x : Stepped). drains (x .network) (told (deliveryOf (q .found .kind) (q .found .sender) (q .found .receiver)) (x .answer)) at (count + 1)) step
-      ∙ sym (ite-true _ _ any)
-      ∙ as-found
+      g .any ≡ true →
+      steps (deliveryStep (g .kind) (g .sender) (g .receiver)) (record { kind = g .kind + 3; a = g .sender; b = g .receiver; c = 0; value = 0 })
+      (midDrain noLine at (count + 1))
+      ≡ drainTurn f at count
+  unfolding drainTurn deliveryOf
+  drain-delivers any = sym (ite-true _ _ any) ∙ as-found
 
 -- a message that the search finds is of kind 0 to 3
-pub kind-few : (s : Network) {q : Sought} → q ≡ sought s → q .found .any ≡ true → q .found .kind < 4
-unfolding sought
-kind-few s e any =
-    let known : sought s .found .any ≡ true → sought s .found .kind < 4
-    = ite-case (λ (x : Sought). x .found .any ≡ true → x .found .kind < 4) (netForm s) _ _ (λ _ a. found s a .kind-known) (λ _ a. clash refl a) in
-    omega (arith, known (sym (ap (λ (x : Sought). x .found .any) e) ∙ any), ap (λ (x : Sought). x .found .kind) e)
+pub kind-few : (s : Network) {g : Found} → g ≡ firstIn s → g .any ≡ true → g .kind < 4
+kind-few s e any = omega (arith, found s (ap (λ (x : Found). x .any) (sym e) ∙ any) .kind-known, ap (λ (x : Found). x .kind) e)
 
--- ---- a step
+-- ---- the step of a record
 
-module _ (s : Network) (r : Record) where
-  pub step-writes : r .kind ≡ 1 → written s (r .value) ≡ stepped s r
-  unfolding stepped
+module _ (r : Record) where
+  pub step-writes : r .kind ≡ 1 → record { what = 1; kind = 0; from = 0; at = 0; value = r .value } ≡ stepOf r
+  unfolding stepOf
   step-writes e = sym (ite-true _ _ (eq-eqb _ _ e))
 
-  pub step-reads : r .kind ≢ 1 → r .kind ≡ 2 → begun s (r .a) ≡ stepped s r
-  unfolding stepped
-  step-reads a e = sym (ite-false _ _ (ne-eqb _ _ a) ∙ ite-true _ _ (eq-eqb _ _ e))
+  module _ (a : r .kind ≢ 1) where
+    pub step-reads : r .kind ≡ 2 → record { what = 2; kind = 0; from = 0; at = r .a; value = 0 } ≡ stepOf r
+    unfolding stepOf
+    step-reads e = sym (ite-false _ _ (ne-eqb _ _ a) ∙ ite-true _ _ (eq-eqb _ _ e))
 
-  pub step-loses : r .kind ≢ 1 → r .kind ≢ 2 → r .kind ≡ 7 → lost s (r .a) ≡ stepped s r
-  unfolding stepped
-  step-loses a b e = sym (ite-false _ _ (ne-eqb _ _ a) ∙ ite-false _ _ (ne-eqb _ _ b) ∙ ite-true _ _ (eq-eqb _ _ e))
+    module _ (b : r .kind ≢ 2) where
+      pub step-loses : r .kind ≡ 7 → record { what = 4; kind = 0; from = 0; at = r .a; value = 0 } ≡ stepOf r
+      unfolding stepOf
+      step-loses e = sym (ite-false _ _ (ne-eqb _ _ a) ∙ ite-false _ _ (ne-eqb _ _ b) ∙ ite-true _ _ (eq-eqb _ _ e))
 
-  pub step-delivers : r .kind ≢ 1 → r .kind ≢ 2 → r .kind ≢ 7 → delivered s (r .kind - 3) (r .a) (r .b) ≡ stepped s r
-  unfolding stepped
-  step-delivers a b d = sym (ite-false _ _ (ne-eqb _ _ a) ∙ ite-false _ _ (ne-eqb _ _ b) ∙ ite-false _ _ (ne-eqb _ _ d))
+      pub step-delivers : r .kind ≢ 7 → deliveryStep (r .kind - 3) (r .a) (r .b) ≡ stepOf r
+      unfolding stepOf
+      step-delivers d = sym (ite-false _ _ (ne-eqb _ _ a) ∙ ite-false _ _ (ne-eqb _ _ b) ∙ ite-false _ _ (ne-eqb _ _ d))
 
 -- ---- a record after the set-up
 
-module _ (s : Network) (q : Read) (at : ℕ) where
-  pub record-refused : {l : Line} → q .refusal ≢ 0 → l ≡ unread q → stops s l ≡ recordLine s q at
-  unfolding recordLine
-  record-refused bad is = ap (stops s) is ∙ sym (ite-false _ _ (ne-eqb _ _ bad))
+module _ (f : Found) (q : Read) (at : ℕ) where
+  pub record-refused : q .refusal ≢ 0 → quiet (lastLine (unread q)) ≡ recordTurn f q at
+  unfolding recordTurn
+  record-refused bad = sym (ite-false _ _ (ne-eqb _ _ bad))
 
   module _ (ok : q .refusal ≡ 0) where
-    pub record-set-up : {l : Line} → q .«record» .kind ≡ 0 → l ≡ entry (q .«record») 17 0 0 → goesOn s l at ≡ recordLine s q at
-    unfolding recordLine
-    record-set-up z is = ap (λ (x : Line). goesOn s x at) is ∙ sym (ite-true _ _ (eq-eqb _ _ ok) ∙ ite-true _ _ (eq-eqb _ _ z))
+    pub record-set-up : q .«record» .kind ≡ 0 → quiet (onward (entry (q .«record») 17 0 0) at) ≡ recordTurn f q at
+    unfolding recordTurn
+    record-set-up z = sym (ite-true _ _ (eq-eqb _ _ ok) ∙ ite-true _ _ (eq-eqb _ _ z))
 
-    pub record-drains : q .«record» .kind ≢ 0 → q .«record» .kind ≡ 8 → drainLine s at 0 ≡ recordLine s q at
-    unfolding recordLine
-    record-drains z k = sym (ite-true _ _ (eq-eqb _ _ ok) ∙ ite-false _ _ (ne-eqb _ _ z) ∙ ite-true _ _ (eq-eqb _ _ k))
+    module _ (z : q .«record» .kind ≢ 0) where
+      pub record-drains : q .«record» .kind ≡ 8 → drainTurn f at 0 ≡ recordTurn f q at
+      unfolding recordTurn
+      record-drains k = sym (ite-true _ _ (eq-eqb _ _ ok) ∙ ite-false _ _ (ne-eqb _ _ z) ∙ ite-true _ _ (eq-eqb _ _ k))
 
-    pub record-steps :
-        {o : Stepped} {l : Line} → q .«record» .kind ≢ 0 → q .«record» .kind ≢ 8 → o ≡ stepped s (q .«record») → l ≡ told (q .«record») (o .answer) →
-        goesOn (o .network) l at ≡ recordLine s q at
-    unfolding recordLine
-    record-steps {o} z k step is =
-        ap (λ (x : Line). goesOn (o .network) x at) is
-        ∙ ap (λ (x : Stepped). goesOn (x .network) (told (q .«record») (x .answer)) at) step
-        ∙ sym (ite-true _ _ (eq-eqb _ _ ok) ∙ ite-false _ _ (ne-eqb _ _ z) ∙ ite-false _ _ (ne-eqb _ _ k))
+      pub record-steps : q .«record» .kind ≢ 8 → steps (stepOf (q .«record»)) (q .«record») (onward noLine at) ≡ recordTurn f q at
+      unfolding recordTurn
+      record-steps k = sym (ite-true _ _ (eq-eqb _ _ ok) ∙ ite-false _ _ (ne-eqb _ _ z) ∙ ite-false _ _ (ne-eqb _ _ k))
 
--- ---- the next line
+-- ---- the next turn
 
-module _ (bytes : List ℕ) (b : Bench) where
-  pub next-ended : b .ended ≡ true → silent (b .network) ≡ nextLine bytes b
-  unfolding nextLine
+module _ (bytes : List ℕ) (f : Found) (b : Stand) where
+  pub next-ended : b .ended ≡ true → quiet noMore ≡ nextTurn bytes f b
+  unfolding nextTurn
   next-ended e = sym (ite-true _ _ e)
 
   module _ (on : b .ended ≡ false) where
-    pub next-drains : b .draining ≡ true → drainLine (b .network) (b .at) (b .count) ≡ nextLine bytes b
-    unfolding nextLine
+    pub next-drains : b .draining ≡ true → drainTurn f (b .at) (b .count) ≡ nextTurn bytes f b
+    unfolding nextTurn
     next-drains d = sym (ite-false _ _ on ∙ ite-true _ _ d)
 
     module _ (d : b .draining ≡ false) where
-      pub next-none : length bytes ≤ b .at → silent (b .network) ≡ nextLine bytes b
-      unfolding nextLine
+      pub next-none : length bytes ≤ b .at → quiet noMore ≡ nextTurn bytes f b
+      unfolding nextTurn
       next-none h = sym (ite-false _ _ on ∙ ite-false _ _ d ∙ ite-false _ _ (le-ltb _ _ h))
 
-      pub next-reads : {q : Read} → b .at < length bytes → q ≡ reading bytes (b .at) → recordLine (b .network) q (b .at + q .used) ≡ nextLine bytes b
-      unfolding nextLine
+      pub next-reads : {q : Read} → b .at < length bytes → q ≡ reading bytes (b .at) → recordTurn f q (b .at + q .used) ≡ nextTurn bytes f b
+      unfolding nextTurn
       next-reads h e =
-          ap (λ (x : Read). recordLine (b .network) x (b .at + x .used)) e ∙ sym (ite-false _ _ on ∙ ite-false _ _ d ∙ ite-true _ _ (lt-ltb _ _ h))
+          ap (λ (x : Read). recordTurn f x (b .at + x .used)) e ∙ sym (ite-false _ _ on ∙ ite-false _ _ d ∙ ite-true _ _ (lt-ltb _ _ h))
+
+module _ (t : Turn) (a : Answer) where
+  pub after-quiet : t .tells ≡ false → t .stand ≡ afterTurn t a
+  unfolding afterTurn
+  after-quiet e = sym (ite-false _ _ e)
+
+  pub after-step : t .tells ≡ true → withLine (t .stand) (told (t .«record») a) ≡ afterTurn t a
+  unfolding afterTurn
+  after-step e = sym (ite-true _ _ e)
 
 -- ---- the first
 

@@ -2,7 +2,7 @@
 -- own. What it gives one after the other is the listing's lines (proofs/Giving).
 -- Assumes nothing.
 use Prim.Native.Nat.{ℕ, _+_}
-use mathlib.Core.Bool.{true, false}
+use mathlib.Core.Bool.{Bool, true, false}
 use mathlib.Core.List.{List}
 use lib.Dec.{ltb, eqb}
 use lib.ListN.{length}
@@ -17,8 +17,18 @@ use Rattle.steps.specs.declared.Stepped.{Stepped}
 use Rattle.steps.specs.Steps.{delivered}
 use Rattle.steps.specs.Search.{sought}
 use Rattle.steps.specs.SetUp.{setUp}
-use Rattle.listing.specs.declared.Bench.{Bench}
 use Rattle.listing.specs.Entries.{entry, unread, told, deliveryOf, drain, stepped}
+
+-- the bench has given a line, if there was one. It reads on at `at`, unless it has ended; while it drains, count is how many deliveries
+-- it has listed
+pub record Bench : Type 0 where
+  pub network : Network
+  pub any : Bool
+  pub line : Line
+  pub ended : Bool
+  pub draining : Bool
+  pub at : ℕ
+  pub count : ℕ
 
 abbrev pub noLine : Line
 noLine = record { step = 0; kind = 0; shown = 0; a = 0; b = 0; answer = 0; tag = 0; number = 0 }

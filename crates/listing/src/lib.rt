@@ -4,16 +4,20 @@ ghost use mathlib.Core.Logic.{_≢_};
 ghost use Prim.Native.Nat.{_+_, _^_, _≤_, _<_};
 ghost use lib.ListN.{length};
 ghost use Rattle.text.specs.Text.{lineText};
-ghost use Rattle.listing.specs.Entries.{shownBy, entry, unread, told, stepped};
+ghost use Rattle.house.specs.Search.{flying, firstIn};
+ghost use Rattle.listing.specs.Entries.{shownBy, entry, unread, told, drain};
 ghost use Rattle.listing.specs.Listing.{numberedAs, wholeText, longest, listing};
-ghost use Rattle.listing.specs.Machine.{silent, stops, goesOn, drains, drainLine, recordLine, nextLine, firstRecord, opened};
+ghost use Rattle.listing.specs.Machine.{noLine, firstRecord, opened};
+ghost use Rattle.listing.specs.Turning.{benchAt, noMore, lastLine, onward, midDrain, quiet, steps, deliveryStep, stepOf, drainTurn, recordTurn, nextTurn, afterTurn};
 ghost use Rattle.listing.specs.Putting.{Put};
+use channels::Row;
 use events::Answer;
 use house::Network;
+use parts::Parts;
+use parts::Step;
 use schedule::Read;
 use schedule::Record;
 use steps::Ready;
-use steps::Stepped;
 use tables::WriteNo;
 use tables::both;
 use text::Line;
@@ -26,14 +30,27 @@ pub struct Listed {
 
 // The bench has given a line, if there was one. It reads on at `at`, unless it has ended; while it drains, count is how many
 // deliveries it has listed.
-struct Bench {
-    network: Network,
+struct Stand {
     any: bool,
     line: Line,
     ended: bool,
     draining: bool,
     at: usize,
     count: u32,
+}
+
+// What the bench does next: a step, or none; where it then stands; and whether its line tells the answer to `record`.
+struct Turn {
+    step: Step,
+    tells: bool,
+    record: Record,
+    stand: Stand,
+}
+
+// The network that the first record makes, and where the bench then stands.
+struct Start {
+    network: Network,
+    stand: Stand,
 }
 
 // ---- lines, without their step numbers
@@ -102,24 +119,29 @@ fn told(r: Record, a: Answer) -> Line
     }
 }
 
-// ---- line by line
+// ---- where the bench stands
 
-fn silent(s: Network) -> Bench
-    ensures { λ b. ⌜ b ≡ silent s ⌝ }
+fn no_line() -> Line
+    ensures { λ l. ⌜ l ≡ noLine ⌝ }
 {
-    Bench {
-        network: s,
+    Line {
+        step: 0,
+        kind: 0,
+        shown: 0,
+        a: 0,
+        b: 0,
+        answer: 0,
+        tag: 0,
+        number: 0,
+    }
+}
+
+fn no_more() -> Stand
+    ensures { λ b. ⌜ b ≡ noMore ⌝ }
+{
+    Stand {
         any: false,
-        line: Line {
-            step: 0,
-            kind: 0,
-            shown: 0,
-            a: 0,
-            b: 0,
-            answer: 0,
-            tag: 0,
-            number: 0,
-        },
+        line: no_line(),
         ended: true,
         draining: false,
         at: 0,
@@ -127,12 +149,10 @@ fn silent(s: Network) -> Bench
     }
 }
 
-// A last line.
-fn stops(s: Network, l: Line) -> Bench
-    ensures { λ b. ⌜ b ≡ stops s l ⌝ }
+fn last_line(l: Line) -> Stand
+    ensures { λ b. ⌜ b ≡ lastLine l ⌝ }
 {
-    Bench {
-        network: s,
+    Stand {
         any: true,
         line: l,
         ended: true,
@@ -142,11 +162,10 @@ fn stops(s: Network, l: Line) -> Bench
     }
 }
 
-fn goes_on(s: Network, l: Line, at: usize) -> Bench
-    ensures { λ b. ⌜ b ≡ goesOn s l at ⌝ }
+fn onward(l: Line, at: usize) -> Stand
+    ensures { λ b. ⌜ b ≡ onward l at ⌝ }
 {
-    Bench {
-        network: s,
+    Stand {
         any: true,
         line: l,
         ended: false,
@@ -156,11 +175,10 @@ fn goes_on(s: Network, l: Line, at: usize) -> Bench
     }
 }
 
-fn drains(s: Network, l: Line, at: usize, count: u32) -> Bench
-    ensures { λ b. ⌜ b ≡ drains s l at count ⌝ }
+fn mid_drain(l: Line, at: usize, count: u32) -> Stand
+    ensures { λ b. ⌜ b ≡ midDrain l at count ⌝ }
 {
-    Bench {
-        network: s,
+    Stand {
         any: true,
         line: l,
         ended: false,
@@ -170,22 +188,101 @@ fn drains(s: Network, l: Line, at: usize, count: u32) -> Bench
     }
 }
 
-// The next delivery of a drain, or its own line.
-fn drain_line(s: Network, at: usize, count: u32) -> Bench
-    requires { ⌜ count < 100000 ⌝ }
-    ensures { λ b. ⌜ b ≡ drainLine s at count ⌝ }
+// ---- turns
+
+fn the_drain() -> Record
+    ensures { λ r. ⌜ r ≡ drain ⌝ }
 {
-    let q = network::next_delivery(s);
-    let f = q.found;
-    if !f.any {
-        let own = Record {
-            kind: 8,
-            a: 0,
-            b: 0,
-            c: 0,
+    Record {
+        kind: 8,
+        a: 0,
+        b: 0,
+        c: 0,
+        value: 0,
+    }
+}
+
+// No step, and the line is known.
+fn quiet(b: Stand) -> Turn
+    ensures { λ t. ⌜ t ≡ quiet b ⌝ }
+{
+    Turn {
+        step: Step {
+            what: 0,
+            kind: 0,
+            from: 0,
+            at: 0,
             value: 0,
-        };
-        return goes_on(s, entry(own, 0, b'd', count), at);
+        },
+        tells: false,
+        record: the_drain(),
+        stand: b,
+    }
+}
+
+// A step, and the line tells its answer.
+fn steps(m: Step, r: Record, b: Stand) -> Turn
+    ensures { λ t. ⌜ t ≡ steps m r b ⌝ }
+{
+    Turn {
+        step: m,
+        tells: true,
+        record: r,
+        stand: b,
+    }
+}
+
+// A start of a write or a read, or power loss.
+fn step_at(what: u8, i: u8, v: u32) -> Step
+    ensures { λ m. ⌜ m ≡ record { what = what; kind = 0; from = 0; at = i; value = v } ⌝ }
+{
+    Step {
+        what,
+        kind: 0,
+        from: 0,
+        at: i,
+        value: v,
+    }
+}
+
+fn delivery_step(kind: u8, i: u8, j: u8) -> Step
+    ensures { λ m. ⌜ m ≡ deliveryStep kind i j ⌝ }
+{
+    Step {
+        what: 3,
+        kind,
+        from: i,
+        at: j,
+        value: 0,
+    }
+}
+
+// The step of a record other than set-up and drain.
+fn step_of(r: Record) -> Step
+    requires { ⌜ r .kind ≢ 0 ⌝ }
+    ensures { λ m. ⌜ m ≡ stepOf r ⌝ }
+{
+    if r.kind == 1 {
+        return step_at(1, 0, r.value);
+    }
+    if r.kind == 2 {
+        return step_at(2, r.a, 0);
+    }
+    if r.kind == 7 {
+        return step_at(4, r.a, 0);
+    }
+    delivery_step(r.kind - 3, r.a, r.b)
+}
+
+// The next delivery of a drain, or its own line.
+fn drain_turn(rows: [Row; 7], down: [bool; 7], at: usize, count: u32) -> Turn
+    requires { ⌜ count < 100000 ⌝ }
+    ensures { λ t. ⌜ t ≡ drainTurn (firstIn (flying rows down)) at count ⌝ }
+{
+    let f = house::first_in_flight(rows, down);
+    if !f.any {
+        let own = entry(the_drain(), 0, b'd', count);
+        return quiet(onward(own, at));
     }
     let r = Record {
         kind: f.kind + 3,
@@ -194,96 +291,93 @@ fn drain_line(s: Network, at: usize, count: u32) -> Bench
         c: 0,
         value: 0,
     };
-    let o = network::deliver(s, f.kind, f.sender, f.receiver);
-    let next = o.network;
-    let answer = o.answer;
-    drains(next, told(r, answer), at, count + 1)
-}
-
-// What a record other than set-up and drain comes to.
-fn stepped(s: Network, r: Record) -> Stepped
-    requires { ⌜ r .kind ≢ 0 ⌝ }
-    ensures { λ o. ⌜ o ≡ stepped s r ⌝ }
-{
-    if r.kind == 1 {
-        return network::write(s, r.value);
-    }
-    if r.kind == 2 {
-        return network::read(s, r.a);
-    }
-    if r.kind == 7 {
-        return network::lose_power(s, r.a);
-    }
-    network::deliver(s, r.kind - 3, r.a, r.b)
+    let m = delivery_step(f.kind, f.sender, f.receiver);
+    steps(m, r, mid_drain(no_line(), at, count + 1))
 }
 
 // A record after the set-up; behind it stands place at.
-fn record_line(s: Network, q: Read, at: usize) -> Bench
-    ensures { λ b. ⌜ b ≡ recordLine s q at ⌝ }
+fn record_turn(rows: [Row; 7], down: [bool; 7], q: Read, at: usize) -> Turn
+    ensures { λ t. ⌜ t ≡ recordTurn (firstIn (flying rows down)) q at ⌝ }
 {
     if q.refusal != 0 {
-        return stops(s, unread(q));
+        return quiet(last_line(unread(q)));
     }
     let r = q.record;
     if r.kind == 0 {
-        return goes_on(s, entry(r, 17, 0, 0), at);
+        return quiet(onward(entry(r, 17, 0, 0), at));
     }
     if r.kind == 8 {
-        return drain_line(s, at, 0);
+        return drain_turn(rows, down, at, 0);
     }
-    let o = stepped(s, r);
-    let next = o.network;
-    let answer = o.answer;
-    goes_on(next, told(r, answer), at)
+    steps(step_of(r), r, onward(no_line(), at))
 }
 
-fn next_line(schedule: &[u8], b: Bench) -> Bench
+fn next_turn(schedule: &[u8], b: Stand, rows: [Row; 7], down: [bool; 7]) -> Turn
     requires { ⌜ b .count < 100000 ⌝ }
-    ensures { λ r. ⌜ r ≡ nextLine (now (schedule .entry)) b ⌝ }
+    ensures { λ t. ⌜ t ≡ nextTurn (now (schedule .entry)) (firstIn (flying rows down)) b ⌝ }
 {
-    let s = b.network;
     if b.ended {
-        return silent(s);
+        return quiet(no_more());
     }
     let at = b.at;
     if b.draining {
-        return drain_line(s, at, b.count);
+        return drain_turn(rows, down, at, b.count);
     }
     if schedule.len() <= at {
-        return silent(s);
+        return quiet(no_more());
     }
     let q = schedule::read_record(schedule, at);
-    record_line(s, q, at + q.used)
+    record_turn(rows, down, q, at + q.used)
 }
 
-fn first_record(q: Read, made: Ready) -> Bench
-    ensures { λ b. ⌜ b ≡ firstRecord q made ⌝ }
+fn after_turn(t: Turn, a: Answer) -> Stand
+    ensures { λ b. ⌜ b ≡ afterTurn t a ⌝ }
 {
-    let s = made.network;
+    let stand = t.stand;
+    if !t.tells {
+        return stand;
+    }
+    let r = t.record;
+    let mut b = stand;
+    b.line = told(r, a);
+    b
+}
+
+// ---- the first record
+
+fn first_record(q: Read, made: Ready) -> Stand
+    ensures { λ b. ⌜ benchAt (made .network) b ≡ firstRecord q made ⌝ }
+{
     if q.refusal != 0 {
-        return stops(s, unread(q));
+        return last_line(unread(q));
     }
     let r = q.record;
     if r.kind != 0 {
-        return stops(s, entry(r, 17, 0, 0));
+        return last_line(entry(r, 17, 0, 0));
     }
     if made.refusal != 0 {
-        return stops(s, entry(r, made.refusal, 0, 0));
+        return last_line(entry(r, made.refusal, 0, 0));
     }
-    goes_on(s, entry(r, 0, 0, 0), q.used)
+    onward(entry(r, 0, 0, 0), q.used)
 }
 
-fn opened(schedule: &[u8]) -> Bench
-    ensures { λ b. ⌜ b ≡ opened (now (schedule .entry)) ⌝ }
+fn opened(schedule: &[u8]) -> Start
+    ensures { λ o. ⌜ benchAt (o .network) (o .stand) ≡ opened (now (schedule .entry)) ⌝ }
 {
     let q = schedule::read_record(schedule, 0);
     let r = q.record;
     let made = network::set_up(r.a, r.b, r.c, r.value);
+    let network = made.network;
     if schedule.len() == 0 {
-        let s = made.network;
-        return silent(s);
+        return Start {
+            network,
+            stand: no_more(),
+        };
     }
-    first_record(q, made)
+    Start {
+        network,
+        stand: first_record(q, made),
+    }
 }
 
 // ---- into the area
@@ -333,12 +427,45 @@ fn put_lines(schedule: &[u8], out: &mut [u8]) -> usize
     let first = text::first_line();
     let mut at = put_all(out, 0, &first);
     let mut step = 1;
-    let mut b = opened(schedule);
+    let start = opened(schedule);
+    let mut b = start.stand;
+    let s = start.network;
+    let mut panels = s.panels;
+    let mut rows = s.rows;
+    let mut down = s.down;
     while b.any {
         let l = b.line;
         at = put_line(out, at, step, l);
         step += 1;
-        b = next_line(schedule, b);
+        let turn = next_turn(schedule, b, rows, down);
+        let m = turn.step;
+        let first = panels[0];
+        let f = first.tables;
+        let to = parts::actor(m, f.writer);
+        let from = parts::sender(m, f.writer);
+        let actor = panels[to];
+        let sender = rows[from];
+        let own = rows[to];
+        let x = Parts {
+            n: f.n,
+            t: f.t,
+            writer: f.writer,
+            down,
+            panel: actor,
+            from: sender,
+            own,
+        };
+        let a = parts::act(x, m);
+        let answer = a.answer;
+        let y = a.parts;
+        let actor = y.panel;
+        let sender = y.from;
+        let own = y.own;
+        panels[to] = actor;
+        rows[from] = sender;
+        rows[to] = own;
+        down = y.down;
+        b = after_turn(turn, answer);
     }
     at
 }

@@ -9,23 +9,13 @@ use Prim.Native.Nat.{ℕ, zero, suc, _+_, _≤_, _<_}
 use native.Mathlib.Nat.{add-zero, zero-add, not-suc-le-zero}
 use native.Mathlib.Omega.{arith}
 use lib.ListN.{length, getD, set, take, drop, length-set, length-append, length-map, List·getD-map}
-use lib.Seq.{sets, sets-eq, getD-set-same, getD-set-other}
+use lib.Seq.{sets, sets-eq, length-sets, getD-set-same, getD-set-other}
+use Rattle.basics.proofs.Lists.{sets-append}
 use Rattle.messages.specs.declared.Sends.{Sends}
 use Rattle.messages.specs.Sends.{Message, messagesOf}
 use Rattle.messages.specs.Area.{Area, Laid, laid, Further, laidIn, roomOf, laying}
 
 -- ---- a list of numbers
-
-pub length-laid : (at : ℕ) (xs area : List ℕ) → length (laid at xs area) ≡ length area
-unfolding laid
-length-laid at [] area = refl
-length-laid at (x ∷ xs) area = length-laid (suc at) xs (set area at x) ∙ length-set area at x
-
-pub laid-append : (at : ℕ) (xs ys area : List ℕ) → laid at (xs ++ ys) area ≡ laid (at + length xs) ys (laid at xs area)
-unfolding laid
-laid-append at [] ys area = ap (λ (k : ℕ). laid k ys area) (sym (add-zero at))
-laid-append at (x ∷ xs) ys area =
-    laid-append (suc at) xs ys (set area at x) ∙ ap (λ (k : ℕ). laid k ys (laid (suc at) xs (set area at x))) (omega arith)
 
 -- a place before the first and one behind the last are left alone
 pub laid-past : (at : ℕ) (xs area : List ℕ) (k : ℕ) → (k < at) ⊎ (at + length xs ≤ k) → getD (laid at xs area) k 0 ≡ getD area k 0
@@ -33,6 +23,18 @@ unfolding laid
 laid-past at [] area k h = refl
 laid-past at (x ∷ xs) area k (inl l) = laid-past (suc at) xs (set area at x) k (inl (omega arith)) ∙ getD-set-other area at k x 0 (omega arith)
 laid-past at (x ∷ xs) area k (inr l) = laid-past (suc at) xs (set area at x) k (inr (omega arith)) ∙ getD-set-other area at k x 0 (omega arith)
+
+-- the kit's own name for it
+laid-sets : (at : ℕ) (xs area : List ℕ) → laid at xs area ≡ sets area at xs
+unfolding laid
+laid-sets at [] area = refl
+laid-sets at (x ∷ xs) area = laid-sets (suc at) xs (set area at x)
+
+pub length-laid : (at : ℕ) (xs area : List ℕ) → length (laid at xs area) ≡ length area
+length-laid at xs area = ap length (laid-sets at xs area) ∙ length-sets area at xs
+
+pub laid-append : (at : ℕ) (xs ys area : List ℕ) → laid at (xs ++ ys) area ≡ laid (at + length xs) ys (laid at xs area)
+laid-append at xs ys area = simp (laid-sets, sets-append)
 
 pub laid-at : (at : ℕ) (xs area : List ℕ) (i : ℕ) → i < length xs → at + i < length area → getD (laid at xs area) (at + i) 0 ≡ getD xs i 0
 unfolding laid
@@ -44,11 +46,6 @@ laid-at at (x ∷ xs) area zero h l =
 laid-at at (x ∷ xs) area (suc i) h l =
     ap (λ (k : ℕ). getD (laid (suc at) xs (set area at x)) k 0) (omega arith)
     ∙ laid-at (suc at) xs (set area at x) i (omega arith) (omega (arith, length-set area at x))
-
-laid-sets : (at : ℕ) (xs area : List ℕ) → laid at xs area ≡ sets area at xs
-unfolding laid
-laid-sets at [] area = refl
-laid-sets at (x ∷ xs) area = laid-sets (suc at) xs (set area at x)
 
 -- the whole area, where there is room
 pub laid-front :
@@ -83,10 +80,6 @@ laid-message at ms a i h l = λ n.
         laid-at at (map g ms) area i (omega (arith, length-map ms g)) r
         ∙ ap (getD (map g ms) i) (sym z)
         ∙ List·getD-map g ms i blank
-
-pub room-kept : (at : ℕ) (ms : List Message) (a : Area) → roomOf (laidIn at ms a) ≡ roomOf a
-unfolding laidIn roomOf
-room-kept at ms a = simp length-laid
 
 -- ---- messages behind messages
 

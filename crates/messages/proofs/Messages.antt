@@ -10,12 +10,10 @@ use native.Mathlib.Numerals.{add-one}
 use native.Mathlib.Omega.{arith}
 use lib.ListN.{length, getD, length-append, List·getD-append, List·getD-map, length-map}
 use lib.Seq.{getD-at}
-use lib.Dec.{leb}
-use borrow.Author.Tests.{leb-true, leb-false}
 use Rattle.basics.specs.Choice.{ite}
 use Rattle.basics.specs.Below.{oneIf, countBelow}
 use Rattle.basics.proofs.Choices.{ite-true}
-use Rattle.basics.proofs.Below.{count-most}
+use Rattle.basics.proofs.Below.{last-or-below, count-most}
 use Rattle.messages.specs.declared.Cast.{Cast}
 use Rattle.messages.specs.declared.Sends.{Sends}
 use Rattle.messages.specs.Sends.{Message, castBelow, castOf, proceedsTo, messagesOf, noCast, noSends}
@@ -126,14 +124,6 @@ below-only (suc n) c m h = pick (λ l. below-only n c m l) (List·Memᴰ·append
 pub cast-only : (c : Cast) (m : Message) → List·Memᴰ m (castOf c) → OfCast 7 c m
 unfolding castOf
 cast-only c m h = below-only 7 c m h
-
--- either j is the last number below suc n, or it is below n
-last-or-below : {j n : ℕ} → j < suc n → (j ≡ n) ⊎ (j < n)
-last-or-below {j} {n} h = by (leb n j) refl
-  where
-    by : (b : Bool) → leb n j ≡ b → (j ≡ n) ⊎ (j < n)
-    by true e = let l : n ≤ j = leb-true _ _ e in inl (omega arith)
-    by false e = inr (leb-false _ _ e)
 
 below-all : (n : ℕ) (c : Cast) (j : ℕ) → j < n → getD (c .to) j false ≡ true → List·Memᴰ (castTo c j) (castBelow n c)
 unfolding castBelow

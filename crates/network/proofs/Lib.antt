@@ -1,4 +1,3 @@
-pub mod Within
-pub mod Trials
 pub mod Along
 pub mod Outcomes
+pub mod Calls

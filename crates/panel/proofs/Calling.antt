@@ -1,15 +1,17 @@
--- What a panel's calls come to, for their code.
+-- What a panel's calls come to, for their code and for what is set up by them.
 -- Assumes nothing.
-use mathlib.Core.Path.{_≡_, sym, ap, _∙_}
+use mathlib.Core.Path.{_≡_, refl, ap, _∙_}
+use mathlib.Core.Bool.{true, false}
 use Prim.Native.Nat.{ℕ}
+use Rattle.basics.proofs.Choices.{ite-true, ite-false}
 use Rattle.messages.specs.Area.{Area, Laid, laying, roomOf}
-use Rattle.form.specs.declared.Tables.{Tables}
+use Rattle.form.specs.Form.{fits, isPanel, fresh}
 use Rattle.refusals.specs.Refusals.{Event}
 use Rattle.events.specs.declared.Done.{Done}
 use Rattle.events.specs.Events.{happens}
 use Rattle.panel.specs.declared.Panel.{Panel}
 use Rattle.panel.specs.declared.Next.{Next}
-use Rattle.panel.specs.Calls.{Called, panelOf, nextOf, after, told, called}
+use Rattle.panel.specs.Calls.{Called, panelOf, nextOf, after, told, called, nothing, made}
 
 pub told-as :
     (d : Done) (a : Area) (laid : Laid) → laid ≡ laying (d .sends) a →
@@ -26,3 +28,23 @@ called-as p e a room d c r h t = t ∙ ap (λ (x : Done). told x a) (h ∙ ap (�
 pub after-as : (p : Panel) (e : Event) (d : Done) (q : Next) → d ≡ happens (p .tables) 107 e → q ≡ nextOf d → q ≡ after p e
 unfolding after
 after-as p e d q h n = n ∙ ap nextOf h
+
+-- ---- set-up
+
+pub nothing-is : nothing ≡ panelOf (fresh 0 0 0 0 0)
+unfolding nothing
+nothing-is = refl
+
+module _ (n t writer number v : ℕ) where
+  pub made-unfit : fits n t writer ≡ false → made n t writer number v ≡ record { refusal = 1; panel = nothing }
+  unfolding made
+  made-unfit f = ite-false _ _ f
+
+  module _ (f : fits n t writer ≡ true) where
+    pub made-elsewhere : isPanel n number ≡ false → made n t writer number v ≡ record { refusal = 4; panel = nothing }
+    unfolding made
+    made-elsewhere i = ite-true _ _ f ∙ ite-false _ _ i
+
+    pub made-done : isPanel n number ≡ true → made n t writer number v ≡ record { refusal = 0; panel = panelOf (fresh n t writer number v) }
+    unfolding made
+    made-done i = ite-true _ _ f ∙ ite-true _ _ i

@@ -1,24 +1,20 @@
 -- The promise of a panel, as the panel's calls without a message area tell it: what a network lives on.
 -- Assumes nothing.
-use mathlib.Core.Path.{_≡_, ap, subst₂}
+use mathlib.Core.Path.{_≡_}
 use mathlib.Core.Bool.{Bool, true, false}
-use mathlib.Core.List.{[]}
-use mathlib.Core.Logic.{_≢_}
-use Prim.Native.Nat.{ℕ, _+_, _-_, _≤_, _<_}
-use lib.ListN.{length}
-use Rattle.messages.specs.Sends.{messagesOf, noSends}
+use Prim.Native.Nat.{ℕ, _-_}
+use Rattle.messages.specs.Sends.{messagesOf}
 use Rattle.form.specs.Setting.{ownPlace}
 use Rattle.refusals.specs.Refusals.{Event, rightBit, refusal}
 use Rattle.refusals.specs.Refusals.Event.{write, read, writeFrom, readFrom, proceedFrom}
 use Rattle.events.proofs.Kept.{Good, kept}
 use Rattle.panel.specs.declared.Panel.{Panel}
-use Rattle.panel.specs.Calls.{panelOf, nextOf, after}
+use Rattle.panel.specs.Calls.{nextOf, after}
 use Rattle.protocol.specs.Promise.{ToPeers, Writes, Reads, WriteComes, WriteWaits, ReadComes, ProceedComes}
 use Rattle.promise.specs.View.{viewOf, outOf, codeOf, Waits}
-use Rattle.promise.specs.Facts.{SameSetting, Formed, AllTo}
-use Rattle.promise.proofs.Receivers.{none-of-kind, out-peers}
+use Rattle.promise.specs.Facts.{SameSetting, AllTo}
+use Rattle.promise.proofs.Receivers.{out-peers}
 use Rattle.promise.proofs.Settings.{setting-kept}
-use Rattle.promise.proofs.Numbers.{formed}
 use Rattle.promise.proofs.Happenings
 
 module _ (p : Panel) (e : Event) where
@@ -41,12 +37,6 @@ module _ (p : Panel) (e : Event) where
     unfolding after nextOf
     after-good = kept (p .tables) g 107 e
 
-    -- in form by the numbers, with n and its own place as they were
-    pub after-formed : Formed (p .tables .n) (ownPlace (p .tables)) (viewOf (after p e .panel .tables))
-    after-formed =
-        subst₂ (λ (n i : ℕ). Formed n (i - 1) (viewOf (after p e .panel .tables))) (after-setting .n) (after-setting .number)
-        (formed (after p e .panel .tables) after-good)
-
     pub after-to-peers : AllTo (p .tables .n) (p .tables .number) (messagesOf (after p e .sends))
     unfolding after nextOf
     after-to-peers = Happenings.all-to-peers (p .tables) g 107 e
@@ -54,38 +44,7 @@ module _ (p : Panel) (e : Event) where
     pub after-peers : ToPeers (p .tables .n) (ownPlace (p .tables)) (outOf (after p e .sends))
     after-peers = out-peers (p .tables .n) (p .tables .number) (g .form .number-low) (after p e .sends) after-to-peers
 
-    pub after-kinds : (l k : ℕ) → 3 < k → outOf (after p e .sends) l k ≡ 0
-    unfolding outOf
-    after-kinds l k h = none-of-kind (p .tables .n) (p .tables .number) after-to-peers (l + 1) k h
-
-    pub after-fit : length (messagesOf (after p e .sends)) ≤ 107
-    unfolding after nextOf
-    after-fit = Happenings.messages-fit (p .tables) g 107 e
-
-  -- ---- refused
-
-  module _ (no : refusal (p .tables) 107 e ≢ 0) where
-    pub refused-panel : after p e .panel ≡ p
-    unfolding after nextOf
-    refused-panel = ap panelOf (Happenings.refused-tables (p .tables) 107 e no)
-
-    pub refused-sends : after p e .sends ≡ noSends
-    unfolding after nextOf
-    refused-sends = Happenings.refused-sends (p .tables) 107 e no
-
-    pub refused-messages : messagesOf (after p e .sends) ≡ []
-    unfolding after nextOf
-    refused-messages = Happenings.refused-messages (p .tables) 107 e no
-
-    pub refused-out : (l k : ℕ) → outOf (after p e .sends) l k ≡ 0
-    unfolding after nextOf
-    refused-out l k = Happenings.refused-out (p .tables) 107 e no l k
-
-  -- ---- accepted
-
-  pub after-waits : refusal (p .tables) 107 e ≡ 0 → Waits (after p e .panel .tables)
-  unfolding after nextOf
-  after-waits z = Happenings.accepted-waits (p .tables) 107 e z
+-- ---- accepted
 
 module _ (p : Panel) (g : Good (p .tables)) where
   pub after-write :

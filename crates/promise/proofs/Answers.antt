@@ -1,5 +1,5 @@
--- Which refusals a panel in form meets, in numbers: a start 6, 7 or 8, a delivery from a peer 11, 12 or 13 by its kind, or none; when
--- it is none; and what an event that meets none has passed.
+-- Which refusals a panel in form meets, in numbers: a start 6, 7 or 8, a delivery from a peer 11, 12 or 13 by its kind, or none; and of a
+-- delivery when it is none, and what it has passed then.
 -- Assumes nothing.
 use mathlib.Core.Path.{_≡_, refl, sym, ap, _∙_}
 use mathlib.Core.Bool.{Bool, true, false, not}
@@ -7,25 +7,23 @@ use mathlib.Core.List.{List, [], _∷_, _++_}
 use mathlib.Core.Logic.{_≢_, _⊎_, inl, inr}
 use Prim.Native.Nat.{ℕ, suc, _+_, _-_, _%_, _≤_, _<_}
 use native.Mathlib.Omega.{arith}
-use lib.Dec.{leb, ltb, eqb, lit<}
-use borrow.Author.Tests.{eq-eqb, ne-eqb, eqb-true, eqb-false, le-leb, lt-leb, le-ltb}
-use Rattle.basics.specs.Choice.{ite, both}
+use lib.Dec.{leb, eqb, lit<}
+use borrow.Author.Tests.{eq-eqb, ne-eqb, eqb-true, lt-leb, le-ltb}
 use Rattle.basics.specs.Below.{oneIf}
 use Rattle.basics.specs.Refusal.{Trial, firstOf}
-use Rattle.basics.proofs.Choices.{clash, ite-true, ite-false, both-true, both-false-left, both-false-right}
+use Rattle.basics.proofs.Choices.{clash, not-so, ite-true, ite-false, both-left, both-right, both-true, both-false-right}
 use Rattle.basics.proofs.Refusals.{first-past}
+use Rattle.basics.proofs.Ones.{one-false}
 use Rattle.tables.specs.Places.{wAt, rAt, holdAt, lineAt}
-use Rattle.form.specs.declared.Operation.the-variants.{Idle}
 use Rattle.form.specs.declared.Tables.{Tables}
 use Rattle.form.specs.Setting.{ownPlace, ownW, ownR}
-use Rattle.form.specs.Form.{isPanel, atWriter}
-use Rattle.form.proofs.InForm.{InForm, form-of}
+use Rattle.form.specs.Form.{atWriter}
+use Rattle.form.proofs.InForm.{InForm, form-of, panel-iff}
 use Rattle.refusals.specs.Refusals.{isPeer, isIdle, rightBit, tooHigh, stray, lineFull, firstTrials, peerTrials, writeTrials, readTrials, writeFromTrials, readFromTrials, proceedFromTrials, trials, refusal}
 use Rattle.refusals.specs.Refusals.Event.{write, read, writeFrom, readFrom, proceedFrom}
-use Rattle.refusals.proofs.Passing.{MayWrite, may-write, MayRead, may-read, MayCome, may-write-from, may-read-from, may-proceed-from}
-use Rattle.refusals.proofs.Refusing.{first-0, write-6, write-7, write-8, write-0, read-7, read-8, read-0, peer-0, more-given, more-0}
+use Rattle.refusals.proofs.Passing.{MayCome, may-write-from, may-read-from, may-proceed-from, not-too-high}
+use Rattle.refusals.proofs.Refusing.{first-0, peer-0, more-given, more-0}
 use Rattle.promise.specs.View.{viewOf}
-use Rattle.promise.proofs.Ones.{one-most, one-false}
 
 -- ---- tests in numbers
 
@@ -33,21 +31,13 @@ pub at-writer : (p : Tables) → p .number ≡ p .writer → atWriter p ≡ true
 unfolding atWriter
 at-writer p e = eq-eqb _ _ e
 
-pub not-at-writer : (p : Tables) → p .number ≢ p .writer → atWriter p ≡ false
-unfolding atWriter
-not-at-writer p n = ne-eqb _ _ n
-
 pub writer-is : (p : Tables) → atWriter p ≡ true → p .number ≡ p .writer
 unfolding atWriter
 writer-is p e = eqb-true _ _ e
 
-pub idle-test : (p : Tables) → p .operation ≡ Idle → isIdle (p .operation) ≡ true
-unfolding isIdle
-idle-test p e = ap isIdle e
-
 pub peer-test : (p : Tables) (j : ℕ) → 1 ≤ j → j ≤ p .n → j ≢ p .number → isPeer p j ≡ true
-unfolding isPeer isPanel
-peer-test p j low high other = both-true (both-true (le-leb _ _ low) (le-leb _ _ high)) (ap not (ne-eqb _ _ other))
+unfolding isPeer
+peer-test p j low high other = both-true (panel-iff _ _ .1 (low, high)) (ap not (ne-eqb _ _ other))
 
 module _ (p : Tables) (k : ℕ) (b : Bool) where
   pub right-bit : oneIf b ≡ suc (viewOf p .w k) % 2 → rightBit p k b ≡ true
@@ -58,25 +48,9 @@ module _ (p : Tables) (k : ℕ) (b : Bool) where
   unfolding rightBit viewOf
   other-bit e = ne-eqb (oneIf b) ((wAt (p .w) k + 1) % 2) (λ (s : oneIf b ≡ (wAt (p .w) k + 1) % 2). omega arith)
 
-  pub bit-right : rightBit p k b ≡ true → oneIf b ≡ suc (viewOf p .w k) % 2
-  unfolding rightBit viewOf
-  bit-right r = let e : oneIf b ≡ (wAt (p .w) k + 1) % 2 = eqb-true _ _ r in omega arith
-
-  pub bit-other : rightBit p k b ≡ false → oneIf b ≡ viewOf p .w k % 2
-  unfolding rightBit viewOf
-  bit-other r = let n : oneIf b ≢ (wAt (p .w) k + 1) % 2 = eqb-false _ _ r in omega (arith, one-most b)
-
 -- ---- what an event that is not refused has passed
 
 module _ (p : Tables) (room : ℕ) where
-  pub write-told : (v : ℕ) → refusal p room (write v) ≡ 0 → MayWrite p room
-  unfolding refusal trials
-  write-told v z = may-write p room z
-
-  pub read-told : refusal p room read ≡ 0 → MayRead p room
-  unfolding refusal trials
-  read-told z = may-read p room z
-
   pub write-from-told : (j : ℕ) (b : Bool) (v : ℕ) → refusal p room (writeFrom j b v) ≡ 0 → MayCome p room j × (stray p (j - 1) b ≡ false)
   unfolding refusal trials
   write-from-told j b v z = may-write-from p room j b z
@@ -92,24 +66,14 @@ module _ (p : Tables) (room : ℕ) where
 -- a WRITE of the other bit finds nothing held
 pub stray-free : (p : Tables) (k : ℕ) (b : Bool) → stray p k b ≡ false → rightBit p k b ≡ false → holdAt (p .held) k .full ≡ false
 unfolding stray
-stray-free p k b s r = by (tooHigh p (wAt (p .w) k + 2)) refl
-  where
-    told : ite (tooHigh p (wAt (p .w) k + 2)) true (holdAt (p .held) k .full) ≡ false
-    told = sym (ite-false _ _ r) ∙ s
-
-    by : (c : Bool) → tooHigh p (wAt (p .w) k + 2) ≡ c → holdAt (p .held) k .full ≡ false
-    by true e = clash told (ite-true _ _ e)
-    by false e = sym (ite-false _ _ e) ∙ told
+stray-free p k b s r = sym (ite-false _ _ (not-too-high p k b s r)) ∙ sym (ite-false _ _ r) ∙ s
 
 -- ---- a WRITE's number that can be
 
 low-enough : (p : Tables) (x : ℕ) → x ≤ 200 → (atWriter p ≡ true → x ≤ ownW p) → tooHigh p x ≡ false
 unfolding tooHigh
-low-enough p x h lead = ite-false _ _ (le-ltb 200 x h) ∙ by (atWriter p) refl
-  where
-    by : (c : Bool) → atWriter p ≡ c → both c (ltb (ownW p) x) ≡ false
-    by true e = both-false-right true (le-ltb (ownW p) x (lead e))
-    by false e = both-false-left _ refl
+low-enough p x h lead =
+    ite-false _ _ (le-ltb 200 x h) ∙ not-so (λ e. clash (le-ltb (ownW p) x (lead (both-left _ _ e))) (both-right _ _ e))
 
 -- ---- a panel in form
 
@@ -136,37 +100,6 @@ module _ (p : Tables) (f : InForm p) where
       ≡ firstOf (record { number = 7; given = not (isIdle (p .operation)) } ∷ record { number = 8; given = leb 100 (ownR p) } ∷ [])
   unfolding refusal trials readTrials
   read-refusal = behind-first _
-
-  -- ---- a start
-
-  module _ (v : ℕ) where
-    pub write-elsewhere : atWriter p ≡ false → refusal p 107 (write v) ≡ 6
-    unfolding refusal trials
-    write-elsewhere h = sym (write-6 p 107 first-passes h)
-
-    pub write-busy : atWriter p ≡ true → isIdle (p .operation) ≡ false → refusal p 107 (write v) ≡ 7
-    unfolding refusal trials
-    write-busy h o = sym (write-7 p 107 first-passes h o)
-
-    pub write-used-up : atWriter p ≡ true → isIdle (p .operation) ≡ true → 200 ≤ viewOf p .w (ownPlace p) → refusal p 107 (write v) ≡ 8
-    unfolding refusal trials viewOf
-    write-used-up h o w = sym (write-8 p 107 first-passes h o w)
-
-    pub write-accepted : atWriter p ≡ true → isIdle (p .operation) ≡ true → viewOf p .w (ownPlace p) < 200 → refusal p 107 (write v) ≡ 0
-    unfolding refusal trials viewOf
-    write-accepted h o w = sym (write-0 p 107 first-passes h o w)
-
-  pub read-busy : isIdle (p .operation) ≡ false → refusal p 107 read ≡ 7
-  unfolding refusal trials
-  read-busy o = sym (read-7 p 107 first-passes o)
-
-  pub read-used-up : isIdle (p .operation) ≡ true → 100 ≤ viewOf p .r (ownPlace p) → refusal p 107 read ≡ 8
-  unfolding refusal trials viewOf
-  read-used-up o r = sym (read-8 p 107 first-passes o r)
-
-  pub read-accepted : isIdle (p .operation) ≡ true → viewOf p .r (ownPlace p) < 100 → refusal p 107 read ≡ 0
-  unfolding refusal trials viewOf
-  read-accepted o r = sym (read-0 p 107 first-passes o r)
 
   -- ---- a delivery
 

@@ -5,15 +5,14 @@ use mathlib.Core.Bool.{Bool, true}
 use mathlib.Core.Logic.{_≢_, _⊎_}
 use Prim.Native.Nat.{ℕ, suc, _+_, _-_, _%_, _≤_, _<_}
 use native.Mathlib.Omega.{arith}
-use borrow.Author.Tests.{le-leb}
 use Rattle.basics.specs.Below.{oneIf}
-use Rattle.basics.proofs.Choices.{both-true}
 use Rattle.messages.specs.Sends.{messagesOf}
 use Rattle.tables.specs.Marks.{enough}
 use Rattle.form.specs.declared.Operation.the-variants.{Idle}
 use Rattle.form.specs.declared.Tables.{Tables}
 use Rattle.form.specs.Setting.{ownPlace}
-use Rattle.form.specs.Form.{fits, isPanel, atWriter, fresh}
+use Rattle.form.specs.Form.{fits, atWriter, fresh}
+use Rattle.form.proofs.InForm.{panel-iff}
 use Rattle.refusals.specs.Refusals.{Event, isPeer, refusal}
 use Rattle.refusals.specs.Refusals.Event.{write, read, writeFrom, readFrom, proceedFrom}
 use Rattle.events.proofs.Kept.{Good}
@@ -34,10 +33,9 @@ pub record At (n i : ℕ) (p : Tables) : Type 0 where
   pub number-is : p .number ≡ i + 1
 
 pub fresh-at : (n t writer i v : ℕ) → fits n t writer ≡ true → i < n → At n i (fresh n t writer (i + 1) v)
-unfolding isPanel
 fresh-at n t writer i v f h =
     record {
-      good = fresh-good n t writer (i + 1) v f (both-true (le-leb 1 (i + 1) (omega arith)) (le-leb (i + 1) n (omega arith)));
+      good = fresh-good n t writer (i + 1) v f (panel-iff n (i + 1) .1 (omega arith, omega arith));
       n-is = fresh-n n t writer (i + 1) v;
       number-is = fresh-number n t writer (i + 1) v;
     }
@@ -124,14 +122,6 @@ module _ (n i : ℕ) (p : Panel) (a : At n i (p .tables)) where
 
   leads : atWriter its ≡ true → its .writer ≡ i + 1
   leads w = sym (Answers.writer-is its w) ∙ a .number-is
-
-  pub at-write-accepted : (v : ℕ) → its .writer ≡ i + 1 → its .operation ≡ Idle → viewOf its .w i < 200 → refusal its 107 (write v) ≡ 0
-  at-write-accepted v w o h =
-      Answers.write-accepted its (a .good .form) v (Answers.at-writer its (a .number-is ∙ sym w)) (Answers.idle-test its o)
-      (omega (arith, ap (λ (l : ℕ). viewOf its .w l) own-is))
-
-  pub at-read-accepted : its .operation ≡ Idle → viewOf its .r i < 100 → refusal its 107 read ≡ 0
-  at-read-accepted o h = Answers.read-accepted its (a .good .form) (Answers.idle-test its o) (omega (arith, ap (λ (l : ℕ). viewOf its .r l) own-is))
 
   module _ (j : ℕ) (low : 1 ≤ j) (high : j ≤ n) (other : j - 1 ≢ i) where
     peer : isPeer its j ≡ true

@@ -4,11 +4,12 @@ use mathlib.Core.Path.{_≡_, refl, ap, _∙_}
 use mathlib.Core.Bool.{true, false}
 use mathlib.Core.List.{List}
 use mathlib.Core.Logic.{_≢_}
-use Prim.Native.Nat.{ℕ, suc, _+_, _<_}
+use Prim.Native.Nat.{ℕ, suc, _+_}
 use native.Mathlib.Omega.{arith}
 use lib.ListN.{set}
 use Rattle.basics.specs.Below.{oneIf}
 use Rattle.basics.proofs.Choices.{ite-case}
+use Rattle.basics.proofs.Ones.{one, nought}
 use Rattle.messages.specs.Sends.{proceedsTo}
 use Rattle.messages.specs.Tally.{tally}
 use Rattle.tables.specs.declared.Hold.{Hold}
@@ -26,9 +27,8 @@ use Rattle.events.proofs.KeptPeers.{PeerPlace}
 use Rattle.events.proofs.Kept.{Good}
 use Rattle.protocol.specs.Promise.{WriteWaits, ReadComes, ProceedComes}
 use Rattle.promise.specs.View.{viewOf, outOf}
-use Rattle.promise.proofs.Ones.{one, nought}
 use Rattle.promise.proofs.Tallies.{no-cast-out, proceeds-there, proceeds-elsewhere, proceeds-kind, proceeds-none-out, out-parts}
-use Rattle.promise.proofs.Receivers.{no-cast-to, SendsTo, sends-peers}
+use Rattle.promise.proofs.Receivers.{no-cast-to, SendsTo, proceed-peer, sends-peers}
 
 -- ---- an event that sends PROCEEDs alone
 
@@ -44,7 +44,7 @@ module _ (p : Tables) (g : Good p) (k : ℕ) (at : PeerPlace p k) where
       record {
         own = no-cast-to (p .n) (p .number);
         held = no-cast-to (p .n) (p .number);
-        peer = λ _. let h : k < p .n = at .within in record { low = omega arith; high = omega arith; other = at .number-other; kind = omega arith };
+        peer = λ _. proceed-peer (p .n) (p .number) k (at .within) (at .number-other);
       }
 
   -- ---- a WRITE that is held

@@ -11,7 +11,6 @@ use lib.Dec.{eqb}
 use lib.ListN.{length}
 use borrow.Author.Tests.{eqb-true, eqb-false}
 use Rattle.basics.proofs.Choices.{ite-case}
-use Rattle.messages.specs.declared.Sends.{Sends}
 use Rattle.messages.specs.Sends.{Message, messagesOf, noSends}
 use Rattle.messages.proofs.Messages.{messages-of-none}
 use Rattle.form.specs.declared.Tables.{Tables}
@@ -32,7 +31,6 @@ use Rattle.protocol.specs.Promise.{Writes, Reads, WriteComes, WriteWaits, ReadC
 use Rattle.promise.specs.View.{viewOf, outOf, codeOf, Waits}
 use Rattle.promise.specs.Facts.{AllTo, none}
 use Rattle.promise.proofs.Receivers.{SendsTo, all-messages}
-use Rattle.promise.proofs.Tallies.{no-sends-out}
 use Rattle.promise.proofs.AfterLook.{look-view, look-code, look-waits}
 use Rattle.promise.proofs.Answers.{write-from-told, read-from-told, proceed-from-told, stray-free}
 use Rattle.promise.proofs.Starting.{write-starts, write-sends-to, read-starts, read-sends-to}
@@ -65,11 +63,8 @@ module _ (p : Tables) (room : ℕ) (e : Event) where
     pub refused-messages : messagesOf (happens p room e .sends) ≡ []
     refused-messages = ap messagesOf refused-sends ∙ messages-of-none
 
-    pub refused-out : (l k : ℕ) → outOf (happens p room e .sends) l k ≡ 0
-    refused-out l k = ap (λ (s : Sends). outOf s l k) refused-sends ∙ no-sends-out l k
-
   module _ (z : refusal p room e ≡ 0) where
-    accepted : happens p room e ≡ lookedAt (rule p e)
+    pub accepted : happens p room e ≡ lookedAt (rule p e)
     accepted = sym (happens-taken p room e 0 (sym z) refl (rule p e) refl)
 
     accepted-view : viewOf (happens p room e .tables) ≡ viewOf (rule p e .tables)

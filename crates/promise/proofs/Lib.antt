@@ -1,4 +1,3 @@
-pub mod Ones
 pub mod Tallies
 pub mod Receivers
 pub mod Dues

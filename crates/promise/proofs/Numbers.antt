@@ -2,23 +2,25 @@
 -- Assumes nothing.
 use mathlib.Core.Path.{_≡_, refl, sym, ap, subst, _∙_}
 use mathlib.Core.Bool.{true}
-use Prim.Native.Nat.{ℕ, zero, suc, _≤_, _<_}
+use Prim.Native.Nat.{ℕ, _≤_, _<_}
 use native.Mathlib.Decide.{decLt}
 use native.Mathlib.Omega.{arith}
-use lib.ListN.{getD, replicate, length-replicate, getD-replicate, List·getD-eq-default}
+use lib.ListN.{replicate, length-replicate, List·getD-eq-default}
 use lib.Seq.{getD-set-same}
 use Rattle.basics.specs.Below.{oneIf}
+use Rattle.basics.proofs.Lists.{getD-case, getD-same}
+use Rattle.basics.proofs.Ones.{nought, one-most, one-true}
 use Rattle.tables.specs.declared.WriteNo.{WriteNo}
 use Rattle.tables.specs.declared.ReadNo.{ReadNo}
 use Rattle.tables.specs.declared.Hold.{Hold}
 use Rattle.tables.specs.declared.Line.{Line}
 use Rattle.tables.specs.Places.{wAt, rAt, holdAt, lineAt, noWrite, noRead, noHold, noLine}
-use Rattle.tables.proofs.Form.{LineForm}
+use Rattle.tables.proofs.Form.{LineForm, level-empty}
 use Rattle.form.specs.declared.Tables.{Tables}
 use Rattle.form.specs.Setting.{ownPlace, ownW}
 use Rattle.form.specs.Form.{fits, isPanel, emptyLine, fresh}
 use Rattle.form.proofs.InForm.{PlaceOf}
-use Rattle.form.proofs.Places.{empty-hold}
+use Rattle.form.proofs.Places.{empty-hold, empty-line}
 use Rattle.form.proofs.Shape.{fresh-shaped}
 use Rattle.form.proofs.AtFirst.{fresh-form}
 use Rattle.events.specs.Rules.{valueOf}
@@ -26,15 +28,6 @@ use Rattle.events.proofs.KeptStarts.{own-place}
 use Rattle.events.proofs.Kept.{Good}
 use Rattle.promise.specs.View.{viewOf, Waits}
 use Rattle.promise.specs.Facts.{Formed, AllZero}
-use Rattle.promise.proofs.Ones.{nought, one-most, one-true}
-
--- nothing waits in a line whose peer knows as much
-level-empty : (l : Line) (low high : ℕ) → LineForm l low high → low ≡ high → l .len ≡ 0
-level-empty l low high f e = by (l .len) refl
-  where
-    by : (n : ℕ) → l .len ≡ n → n ≡ 0
-    by zero s = refl
-    by (suc n) s = absurd (omega (arith, f .above 0 (omega arith), f .within 0 (omega arith)))
 
 module _ (p : Tables) (g : Good p) where
   -- past the seven places of the tables stands zero, and that is in form too
@@ -44,7 +37,7 @@ module _ (p : Tables) (g : Good p) where
         w-below = omega (arith, none-w);
         r-below = omega (arith, none-r);
         hold = empty-hold _ _ _ _ (ap (λ (x : Hold). x .full) none-held) (ap (λ (x : Hold). x .value) none-held);
-        line = subst (λ (x : Line). LineForm x (wAt (p .w) l) (ownW p)) (sym none-waiting) empty;
+        line = subst (λ (x : Line). LineForm x (wAt (p .w) l) (ownW p)) (sym none-waiting) (empty-line noLine _ _ refl (λ k i j. refl));
         own-quiet = λ _. (ap (λ (x : Hold). x .full) none-held, ap (λ (x : Line). x .len) none-waiting);
         past-quiet = λ _. (ap (λ (x : Hold). x .full) none-held, ap (λ (x : Line). x .len) none-waiting);
         past-zero = λ _. (none-w, none-r);
@@ -61,16 +54,6 @@ module _ (p : Tables) (g : Good p) where
 
       none-waiting : lineAt (p .lines) l ≡ noLine
       none-waiting = List·getD-eq-default (p .lines) noLine (omega (arith, g .shape .lines-long .seven))
-
-      empty : LineForm noLine (wAt (p .w) l) (ownW p)
-      empty =
-          record {
-            short = omega arith;
-            above = λ k i. absurd (omega arith);
-            within = λ k i. absurd (omega arith);
-            rising = λ k m i j. absurd (omega arith);
-            zero-past = λ k i j. refl;
-          }
 
   place-any : (l : ℕ) → PlaceOf p l
   place-any l = by (decLt l 7)
@@ -92,7 +75,7 @@ module _ (p : Tables) (g : Good p) where
         held-top = λ l. one-most (holdAt (p .held) l .full);
         held-next = λ l e. place-any l .hold .next-exists (one-true _ e);
         waiting-top = λ l. place-any l .line .short;
-        waiting-behind = λ l e. level-empty (lineAt (p .lines) l) (wAt (p .w) l) (ownW p) (place-any l .line) e;
+        waiting-behind = λ l e. level-empty (place-any l .line) e;
         held-own = ap oneIf (place-any (ownPlace p) .own-quiet (own-place p (g .form) .0) .0) ∙ nought;
         waiting-own = place-any (ownPlace p) .own-quiet (own-place p (g .form) .0) .1;
         w-past = λ l h. place-any l .past-zero h .0;
@@ -111,19 +94,11 @@ module _ (n t writer number v : ℕ) where
   unfolding viewOf fresh emptyLine
   fresh-view =
       record {
-        w = λ l. ap (λ (x : WriteNo). x .0) (filled 7 noWrite noWrite (λ (x : WriteNo). x ≡ noWrite) refl refl l);
-        r = λ l. ap (λ (x : ReadNo). x .0) (filled 7 noRead noRead (λ (x : ReadNo). x ≡ noRead) refl refl l);
-        held = λ l. ap (λ (x : Hold). oneIf (x .full)) (filled 7 noHold noHold (λ (x : Hold). x ≡ noHold) refl refl l) ∙ nought;
-        waiting = λ l. filled 7 emptyLine noLine (λ (x : Line). x .len ≡ 0) refl refl l;
+        w = λ l. ap (λ (x : WriteNo). x .0) (getD-same 7 noWrite l);
+        r = λ l. ap (λ (x : ReadNo). x .0) (getD-same 7 noRead l);
+        held = λ l. ap (λ (x : Hold). oneIf (x .full)) (getD-same 7 noHold l) ∙ nought;
+        waiting = λ l. getD-case 7 emptyLine noLine (λ (x : Line). x .len ≡ 0) refl refl l;
       }
-    where
-      -- what holds of the entry and of what stands past the end holds everywhere
-      filled : {A : Type 0} (m : ℕ) (a d : A) (P : A → Type 0) → P a → P d → (l : ℕ) → P (getD (replicate m a) l d)
-      filled m a d P h i l = by (decLt l m)
-        where
-          by : Dec (l < m) → P (getD (replicate m a) l d)
-          by (yes b) = subst P (sym (getD-replicate m l a d b)) h
-          by (no b) = subst P (sym (List·getD-eq-default (replicate m a) d (omega (arith, length-replicate m a)))) i
 
   pub fresh-waits : Waits (fresh n t writer number v)
   unfolding fresh

@@ -7,23 +7,23 @@ use mathlib.Core.Logic.{_≢_}
 use Prim.Native.Nat.{ℕ, zero, suc, _+_, _-_, _≤_, _<_}
 use native.Mathlib.Omega.{arith}
 use lib.Dec.{eqb}
-use lib.ListN.{getD, getD-replicate}
+use lib.ListN.{getD}
 use borrow.Author.Tests.{ne-eqb, ltb-true, eqb-true}
 use Rattle.basics.specs.Choice.{ite, both}
 use Rattle.basics.specs.Below.{oneIf}
-use Rattle.basics.proofs.Choices.{clash, both-left, both-right, both-false-left, both-false-right}
-use Rattle.basics.proofs.Below.{getD-listBelow}
+use Rattle.basics.proofs.Choices.{clash, both-left, both-right, both-false-left}
+use Rattle.basics.proofs.Lists.{getD-same}
+use Rattle.basics.proofs.Ones.{nought}
 use Rattle.messages.specs.declared.Cast.{Cast}
 use Rattle.messages.specs.declared.Sends.{Sends}
 use Rattle.messages.specs.Sends.{Message, castBelow, castOf, proceedsTo, messagesOf, noCast}
 use Rattle.messages.specs.Tally.{tally}
 use Rattle.messages.proofs.Messages.{castTo, proceedTo}
 use Rattle.tables.specs.Marks.{among, marks, onlyPlace}
-use Rattle.tables.proofs.Marks.{getD-marks}
+use Rattle.tables.proofs.Marks.{getD-marks, only-at}
 use Rattle.protocol.specs.Promise.{ToPeers}
 use Rattle.promise.specs.View.{castOut, outOf}
 use Rattle.promise.specs.Facts.{ToPeer, AllTo, none, more}
-use Rattle.promise.proofs.Ones.{nought}
 
 pub all-append : {n number : ℕ} {xs ys : List Message} → AllTo n number xs → AllTo n number ys → AllTo n number (xs ++ ys)
 all-append none b = b
@@ -44,9 +44,6 @@ module _ (n number : ℕ) {ms : List Message} (a : AllTo n number ms) where
   pub none-own : (k : ℕ) → tally ms number k ≡ 0
   none-own k = none-counted n number number k (λ m t. both-false-left _ (ne-eqb _ _ (t .other))) a
 
-  pub none-of-kind : (j k : ℕ) → 3 < k → tally ms j k ≡ 0
-  none-of-kind j k h = none-counted n number j k (λ m t. both-false-right _ (ne-eqb _ _ (λ (e : m .kind ≡ k). omega (arith, t .kind)))) a
-
 -- ---- casts
 
 -- the marks of a cast are other panels' places
@@ -55,12 +52,13 @@ pub record CastTo (n number : ℕ) (c : Cast) : Type 0 where
   pub other : (l : ℕ) → l < 7 → getD (c .to) l false ≡ true → l + 1 ≢ number
   pub kind : c .kind ≤ 3
 
+pub unmarked : (l : ℕ) → getD (noCast .to) l false ≡ false
+unfolding noCast
+unmarked l = getD-same 7 false l
+
 pub no-cast-to : (n number : ℕ) → CastTo n number noCast
 unfolding noCast
-no-cast-to n number = record { within = λ l h e. clash (unmarked l h) e; other = λ l h e. clash (unmarked l h) e; kind = omega arith }
-  where
-    unmarked : (l : ℕ) → l < 7 → getD (noCast .to) l false ≡ false
-    unmarked l h = getD-replicate 7 l false false h
+no-cast-to n number = record { within = λ l h e. clash (unmarked l) e; other = λ l h e. clash (unmarked l) e; kind = omega arith }
 
 pub marks-to :
     (n number : ℕ) (f : ℕ → Bool) (kind value : ℕ) → kind ≤ 3 → ((l : ℕ) → f l ≡ true → l + 1 ≢ number) →
@@ -72,10 +70,6 @@ marks-to n number f kind value h o =
       other = λ l s e. o l (both-right _ _ (sym (getD-marks n f l s) ∙ e));
       kind = h;
     }
-
-pub only-at : (k l : ℕ) → l < 7 → getD (onlyPlace k) l false ≡ eqb l k
-unfolding onlyPlace
-only-at k l h = getD-listBelow 7 (λ (j : ℕ). eqb j k) l false h
 
 pub only-to : (n number k kind value : ℕ) → kind ≤ 3 → k < n → k + 1 ≢ number → CastTo n number (record { to = onlyPlace k; kind = kind; value = value })
 only-to n number k kind value h m o =
@@ -111,6 +105,9 @@ pub record SendsTo (n number : ℕ) (s : Sends) : Type 0 where
   pub own : CastTo n number (s .own)
   pub held : CastTo n number (s .held)
   pub peer : 0 < s .proceeds → ToPeer n number (proceedTo (s .peer))
+
+pub proceed-peer : (n number k : ℕ) → k < n → k + 1 ≢ number → ToPeer n number (proceedTo (k + 1))
+proceed-peer n number k h other = record { low = omega arith; high = omega arith; other = other; kind = omega arith }
 
 all-proceeds : (n number m j : ℕ) → (0 < m → ToPeer n number (proceedTo j)) → AllTo n number (proceedsTo m j)
 unfolding proceedsTo

@@ -9,6 +9,7 @@ use lib.ListN.{getD, set}
 use borrow.Author.Tests.{eq-eqb, ne-eqb, eqb-false, not-true}
 use Rattle.basics.specs.Below.{oneIf}
 use Rattle.basics.proofs.Choices.{both-true}
+use Rattle.basics.proofs.Ones.{one}
 use Rattle.messages.specs.declared.Cast.{Cast}
 use Rattle.tables.specs.declared.WriteNo.{WriteNo}
 use Rattle.tables.specs.declared.ReadNo.{ReadNo}
@@ -23,7 +24,6 @@ use Rattle.events.proofs.KeptStarts.{own-place}
 use Rattle.events.proofs.Kept.{Good}
 use Rattle.protocol.specs.Promise.{Writes, Reads}
 use Rattle.promise.specs.View.{viewOf, castOut, outOf}
-use Rattle.promise.proofs.Ones.{one}
 use Rattle.promise.proofs.Tallies.{no-cast-out, cast-at, cast-kind, proceeds-none-out, out-parts}
 use Rattle.promise.proofs.Receivers.{CastTo, no-cast-to, marks-to, SendsTo, sends-peers}
 use Rattle.promise.proofs.Dues.{able, due-alike, spread-to, spread-kind, spread-due}

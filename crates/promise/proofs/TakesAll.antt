@@ -10,6 +10,7 @@ use native.Mathlib.Omega.{arith}
 use lib.ListN.{length, set}
 use Rattle.basics.specs.Below.{oneIf}
 use Rattle.basics.proofs.Choices.{clash, ite-case}
+use Rattle.basics.proofs.Ones.{nought, one-true, one-false, nought-or-one}
 use Rattle.messages.specs.Sends.{noCast, proceedsTo}
 use Rattle.messages.specs.Tally.{tally}
 use Rattle.tables.specs.declared.Hold.{Hold}
@@ -28,9 +29,8 @@ use Rattle.events.proofs.Running.{take-keeps, held-keeps}
 use Rattle.events.proofs.Kept.{Good}
 use Rattle.protocol.specs.Promise.{Takes, WriteComes}
 use Rattle.promise.specs.View.{viewOf, castOut, outOf}
-use Rattle.promise.proofs.Ones.{nought, one-true, one-false, nought-or-one}
 use Rattle.promise.proofs.Tallies.{no-cast-out, cast-kind, proceeds-there, proceeds-elsewhere, proceeds-kind, out-parts}
-use Rattle.promise.proofs.Receivers.{CastTo, no-cast-to, SendsTo, sends-peers}
+use Rattle.promise.proofs.Receivers.{CastTo, no-cast-to, SendsTo, proceed-peer, sends-peers}
 use Rattle.promise.proofs.Dues.{Able, able}
 use Rattle.promise.proofs.TakesOne.{TakesOne, take-one}
 
@@ -165,7 +165,7 @@ module _ (p : Tables) (g : Good p) (k v : ℕ) (at : PeerPlace p k) where
       record {
         own = first .cast;
         held = second-cast;
-        peer = λ _. let h : k < p .n = at .within in record { low = omega arith; high = omega arith; other = at .number-other; kind = omega arith };
+        peer = λ _. proceed-peer (p .n) (p .number) k (at .within) (at .number-other);
       }
 
   -- ---- the line

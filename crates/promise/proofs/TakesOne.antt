@@ -8,7 +8,7 @@ use mathlib.Core.Logic.{_≢_}
 use Prim.Native.Nat.{ℕ, suc, _+_, _%_, _≤_, _<_}
 use native.Mathlib.Decide.{ℕ-discrete}
 use native.Mathlib.Omega.{arith}
-use lib.ListN.{length, getD, set, getD-replicate}
+use lib.ListN.{length, getD, set}
 use borrow.Author.Tests.{eqb-true, eqb-false, ltb-true, ltb-false}
 use Rattle.basics.proofs.Choices.{clash, ite-case}
 use Rattle.messages.specs.declared.Cast.{Cast}
@@ -16,6 +16,7 @@ use Rattle.messages.specs.Sends.{noCast}
 use Rattle.tables.specs.declared.WriteNo.{WriteNo}
 use Rattle.tables.specs.Places.{wAt}
 use Rattle.tables.specs.Marks.{onlyPlace}
+use Rattle.tables.proofs.Marks.{only-at}
 use Rattle.form.specs.declared.Tables.{Tables}
 use Rattle.form.specs.Setting.{ownPlace, ownW}
 use Rattle.form.proofs.Stores.{w-set, w-set-ne}
@@ -25,7 +26,7 @@ use Rattle.events.specs.Rules.{valueOf, learned, spread, reached, take}
 use Rattle.protocol.specs.World.{due}
 use Rattle.protocol.specs.Promise.{Takes}
 use Rattle.promise.specs.View.{castOut}
-use Rattle.promise.proofs.Receivers.{CastTo, no-cast-to, only-at, only-to, cast-peers}
+use Rattle.promise.proofs.Receivers.{CastTo, unmarked, no-cast-to, only-to, cast-peers}
 use Rattle.promise.proofs.Dues.{Able, Step, cast-due, spread-to, spread-kind, spread-due}
 
 -- what a WRITE taken from the peer at place k leaves: the promise, and that WRITEs alone are sent, to other panels
@@ -158,14 +159,11 @@ module _ (p : Tables) (a : Able p) (k v : ℕ) (within : k < p .n) (other : k �
     meets near =
         follows noCast (no-cast-to (p .n) (p .number)) (omega arith)
         (λ l h o. record {
-          next = λ e. clash (unmarked l h) e;
-          bit = λ e. clash (unmarked l h) e;
+          next = λ e. clash (unmarked l) e;
+          bit = λ e. clash (unmarked l) e;
           same = λ _. by l (ℕ-discrete l k);
         })
       where
-        unmarked : (l : ℕ) → l < p .n → getD (noCast .to) l false ≡ false
-        unmarked l h = getD-replicate 7 l false false (omega (arith, a .n-high))
-
         by : (l : ℕ) → Dec (l ≡ k) → after l ≡ before l
         by l (yes e) = subst (λ (i : ℕ). after i ≡ before i) (sym e) (omega (arith, own-same, one-more))
         by l (no q) = due-rest l q

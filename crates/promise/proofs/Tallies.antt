@@ -14,13 +14,13 @@ use borrow.Author.Tests.{eq-eqb, ne-eqb}
 use Rattle.basics.specs.Choice.{ite, both}
 use Rattle.basics.specs.Below.{oneIf}
 use Rattle.basics.proofs.Choices.{both-true, both-false-left, both-false-right}
+use Rattle.basics.proofs.Ones.{one, nought}
 use Rattle.messages.specs.declared.Cast.{Cast}
 use Rattle.messages.specs.declared.Sends.{Sends}
-use Rattle.messages.specs.Sends.{Message, castBelow, castOf, proceedsTo, messagesOf, noCast, noSends}
+use Rattle.messages.specs.Sends.{Message, castBelow, castOf, proceedsTo, messagesOf, noCast}
 use Rattle.messages.specs.Tally.{tally}
-use Rattle.messages.proofs.Messages.{castTo, castAt, cast-of-none, messages-of-none, proceedTo}
+use Rattle.messages.proofs.Messages.{castTo, castAt, cast-of-none, proceedTo}
 use Rattle.promise.specs.View.{castOut, outOf}
-use Rattle.promise.proofs.Ones.{one, nought}
 
 -- ---- lists
 
@@ -94,10 +94,6 @@ module _ (c : Cast) where
   unfolding castOut castOf
   cast-at l k h = below-at 7 l k h
 
-  pub cast-past : (l k : ℕ) → 7 ≤ l → castOut c l k ≡ 0
-  unfolding castOut castOf
-  cast-past l k h = below-past 7 l k h
-
   pub cast-kind : (l k : ℕ) → c .kind ≢ k → castOut c l k ≡ 0
   unfolding castOut castOf
   cast-kind l k h = below-kind 7 (l + 1) k h
@@ -136,7 +132,3 @@ unfolding outOf castOut messagesOf
 out-parts s l k =
     tally-append (castOf (s .own)) (castOf (s .held) ++ proceedsTo (s .proceeds) (s .peer)) (l + 1) k
     ∙ ap (λ (x : ℕ). tally (castOf (s .own)) (l + 1) k + x) (tally-append (castOf (s .held)) (proceedsTo (s .proceeds) (s .peer)) (l + 1) k)
-
-pub no-sends-out : (l k : ℕ) → outOf noSends l k ≡ 0
-unfolding outOf
-no-sends-out l k = ap (λ (ms : List Message). tally ms (l + 1) k) messages-of-none ∙ tally-none _ _

@@ -23,13 +23,3 @@ module _ {n writer : ℕ} {s : World} (v : Inv n writer none s) (i j : ℕ) (bi 
 
   pub proceeds-most : s .flying i j 3 ≤ R s j j
   proceeds-most = omega (arith, v .reads j i bj bi (λ e. d (sym e)))
-
-  -- and not more READs in line, or answered, than reads; at most one held WRITE
-  pub waiting-most : s .panel j .waiting i ≤ R s i i
-  waiting-most = omega (arith, v .reads i j bi bj d)
-
-  pub answered-most : R s i j ≤ R s i i
-  answered-most = omega (arith, v .reads i j bi bj d)
-
-  pub one-held : s .panel j .held i ≤ 1
-  one-held = omega (arith, ahead (writes-around v bj) i bi d, v .pair i j bi bj d .two)

@@ -1,23 +1,14 @@
 -- The world that a step would come to is one that the step comes to: so the invariant tells, before anything is sent, that all of it
 -- finds room.
 -- Assumes nothing.
-use Prim.Native.Nat.{ℕ, suc, _+_, _-_, _≤_, _<_}
-use mathlib.Core.Path.{_≡_, refl, sym, ap, subst, _∙_}
-use mathlib.Core.Bool.{Bool, true, false}
+use Prim.Native.Nat.{ℕ, _+_, _-_, _≤_}
+use mathlib.Core.Path.{_≡_, refl, sym, ap, _∙_}
 use mathlib.Core.Logic.{_≢_}
-use native.Mathlib.Decide.{ℕ-discrete}
 use native.Mathlib.Omega.{arith}
-use lib.Dec.{eqb}
 use borrow.Author.Tests.{eq-eqb, ne-eqb, eqb-true}
-use Rattle.basics.specs.Choice.{ite, both}
-use Rattle.basics.proofs.Choices.{ite-true, ite-false, both-true}
+use Rattle.basics.proofs.Choices.{ite-true, ite-false, not-so, both-left, both-right, both-true}
 use Rattle.protocol.specs.World.{View, World, Out, Starts, Delivers}
 use Rattle.protocol.specs.Would.{acting, lacking}
-
-both-not : (a b : Bool) → (a ≡ true → b ≡ false) → both a b ≡ false
-unfolding both
-both-not true b h = h refl
-both-not false b h = refl
 
 module _ (s : World) (p : ℕ) (b : View) (out : Out) where
   pub acting-own : acting s p b out .panel p ≡ b
@@ -40,15 +31,10 @@ module _ (s : World) (q p k : ℕ) where
 
   lacking-else : (i l m : ℕ) → (i ≡ q → l ≡ p → m ≢ k) → lacking s q p k .flying i l m ≡ s .flying i l m
   unfolding lacking
-  lacking-else i l m d = ite-false _ _ (both-not _ _ (λ e. both-not _ _ (λ f. apart (ℕ-discrete i q) (ℕ-discrete l p) e f)))
-    where
-      wrong : {A : Type 0} → (x y : ℕ) → x ≢ y → eqb x y ≡ true → A
-      wrong x y n t = absurd (n (eqb-true x y t))
-
-      apart : Dec (i ≡ q) → Dec (l ≡ p) → eqb i q ≡ true → eqb l p ≡ true → eqb m k ≡ false
-      apart (yes e) (yes f) t u = ne-eqb m k (d e f)
-      apart (yes e) (no f) t u = wrong l p f u
-      apart (no e) f t u = wrong i q e t
+  lacking-else i l m d =
+      ite-false _ _ (not-so λ h.
+      let more = both-right _ _ h in
+      d (eqb-true _ _ (both-left _ _ h)) (eqb-true _ _ (both-left _ _ more)) (eqb-true _ _ (both-right _ _ more)))
 
   pub lacking-panel : (i : ℕ) → lacking s q p k .panel i ≡ s .panel i
   unfolding lacking

@@ -6,8 +6,8 @@ use mathlib.Core.List.{List, _++_}
 use Prim.Native.Nat.{ℕ, suc, _+_, _-_, _≤_, _<_}
 use native.Mathlib.Nat.{add-zero}
 use native.Mathlib.Omega.{arith}
-use lib.ListN.{length, take, drop, length-append, length-drop}
-use lib.Seq.{take-all, drop-at}
+use lib.ListN.{length, drop, length-append, length-drop}
+use lib.Seq.{drop-at}
 use denote.Ref.{RefT, now}
 use Rattle.codec.specs.Items.{itemAt}
 use Rattle.codec.specs.Items as Items
@@ -36,10 +36,6 @@ used-within s = omega (arith, behind-below wire s 0 (suc (length s)) (omega arit
 -- what bounds the place and the length bounds the place behind
 pub step-below : (s : List ℕ) (at b : ℕ) → at < b → length s < b → at + usedOf (reading (drop at s)) < b
 step-below s at b h l = omega (arith, used-within (drop at s), length-drop at s)
-
--- the part behind a place, as the code cuts it
-pub part-behind : (s : List ℕ) (at : ℕ) → take (length s - at) (drop at s) ≡ drop at s
-part-behind s at = take-all (length s - at) (drop at s) (omega (arith, length-drop at s))
 
 pub step-is : (s : List ℕ) (at : ℕ) {n : ℕ} {t : Taken} → t ≡ reading (drop at s) → n ≡ usedOf t → record { taken = t; at = at + n } ≡ stepped s at
 unfolding stepped

@@ -1,21 +1,20 @@
 -- What an event that no refusal meets has passed.
 -- Assumes nothing.
-use mathlib.Core.Path.{_≡_, refl, sym, ap, _∙_}
-use mathlib.Core.Bool.{Bool, true, false, not}
-use mathlib.Core.List.{List, [], _∷_, _++_}
+use mathlib.Core.Path.{_≡_, sym, _∙_}
+use mathlib.Core.Bool.{Bool, true, false}
+use mathlib.Core.List.{[], _∷_, _++_}
 use mathlib.Core.Logic.{_≢_}
 use Prim.Native.Nat.{ℕ, _+_, _-_, _≤_, _<_}
-use native.Mathlib.Omega.{arith}
-use lib.Dec.{leb, ltb, eqb, lit<}
-use borrow.Author.Tests.{lt-ltb, ltb-false, leb-true, leb-false, eqb-false, eq-eqb, not-true, not-false}
-use Rattle.basics.specs.Choice.{ite, both}
-use Rattle.basics.specs.Refusal.{Trial, firstOf}
-use Rattle.basics.proofs.Choices.{clash, ite-true, ite-false, both-left, both-right, both-true}
+use lib.Dec.{ltb, eqb, lit<}
+use borrow.Author.Tests.{lt-ltb, ltb-false, leb-false, eqb-false, not-true, not-false}
+use Rattle.basics.specs.Refusal.{firstOf}
+use Rattle.basics.proofs.Choices.{clash, not-so, ite-true, ite-false, both-left, both-right, both-true}
 use Rattle.basics.proofs.Refusals.{Passes, passed}
-use Rattle.tables.specs.Places.{wAt, rAt, holdAt, lineAt}
+use Rattle.tables.specs.Places.{wAt, rAt, lineAt}
 use Rattle.form.specs.declared.Tables.{Tables}
 use Rattle.form.specs.Setting.{ownW, ownR}
-use Rattle.form.specs.Form.{inForm, isPanel, atWriter}
+use Rattle.form.specs.Form.{inForm, atWriter}
+use Rattle.form.proofs.InForm.{panel-iff}
 use Rattle.refusals.specs.Refusals.{isPeer, isIdle, rightBit, tooHigh, stray, lineFull, firstTrials, peerTrials, writeTrials, readTrials, writeFromTrials, readFromTrials, proceedFromTrials}
 
 -- a write may start
@@ -65,13 +64,13 @@ pub record MayCome (p : Tables) (room j : ℕ) : Type 0 where
   pub other : j ≢ p .number
 
 come : (p : Tables) (room j : ℕ) → inForm p ≡ true → 107 ≤ room → isPeer p j ≡ true → MayCome p room j
-unfolding isPeer isPanel
+unfolding isPeer
 come p room j f r h =
     record {
       form = f;
       roomy = r;
-      low = leb-true _ _ (both-left _ _ (both-left _ _ h));
-      high = leb-true _ _ (both-right _ _ (both-left _ _ h));
+      low = panel-iff _ _ .0 (both-left _ _ h) .0;
+      high = panel-iff _ _ .0 (both-left _ _ h) .1;
       other = eqb-false _ _ (not-true _ (both-right _ _ h));
     }
 
@@ -106,31 +105,19 @@ unfolding tooHigh
 low-number p x h = (ltb-false 200 x first, λ w. ltb-false (ownW p) x (second w))
   where
     first : ltb 200 x ≡ false
-    first = by (ltb 200 x) refl
-      where
-        by : (b : Bool) → ltb 200 x ≡ b → b ≡ false
-        by true e = clash h (ite-true _ _ e)
-        by false e = refl
+    first = not-so (λ e. clash h (ite-true _ _ e))
 
     second : atWriter p ≡ true → ltb (ownW p) x ≡ false
-    second w = by (ltb (ownW p) x) refl
-      where
-        by : (b : Bool) → ltb (ownW p) x ≡ b → b ≡ false
-        by true e = clash h (ite-false _ _ first ∙ both-true w e)
-        by false e = refl
+    second w = not-so (λ e. clash h (ite-false _ _ first ∙ both-true w e))
 
 module _ (p : Tables) (k : ℕ) (b : Bool) (s : stray p k b ≡ false) where
   pub low-right : rightBit p k b ≡ true → (wAt (p .w) k + 1 ≤ 200) × (atWriter p ≡ true → wAt (p .w) k + 1 ≤ ownW p)
   unfolding stray
   low-right r = low-number p (wAt (p .w) k + 1) (sym (ite-true _ _ r) ∙ s)
 
-  not-too-high : rightBit p k b ≡ false → tooHigh p (wAt (p .w) k + 2) ≡ false
+  pub not-too-high : rightBit p k b ≡ false → tooHigh p (wAt (p .w) k + 2) ≡ false
   unfolding stray
-  not-too-high r = by (tooHigh p (wAt (p .w) k + 2)) refl
-    where
-      by : (c : Bool) → tooHigh p (wAt (p .w) k + 2) ≡ c → c ≡ false
-      by true e = clash (sym (ite-false _ _ r) ∙ s) (ite-true _ _ e)
-      by false e = refl
+  not-too-high r = not-so (λ e. clash (sym (ite-false _ _ r) ∙ s) (ite-true _ _ e))
 
   pub low-held : rightBit p k b ≡ false → (wAt (p .w) k + 2 ≤ 200) × (atWriter p ≡ true → wAt (p .w) k + 2 ≤ ownW p)
   low-held r = low-number p (wAt (p .w) k + 2) (not-too-high r)
@@ -139,8 +126,4 @@ module _ (p : Tables) (k : ℕ) (b : Bool) (s : stray p k b ≡ false) where
 
 pub line-room : (p : Tables) (k : ℕ) → lineFull p k ≡ false → wAt (p .w) k < ownW p → lineAt (p .lines) k .len < 100
 unfolding lineFull
-line-room p k full b = by (leb 100 (lineAt (p .lines) k .len)) refl
-  where
-    by : (c : Bool) → leb 100 (lineAt (p .lines) k .len) ≡ c → lineAt (p .lines) k .len < 100
-    by true e = clash full (both-true (lt-ltb _ _ b) e)
-    by false e = leb-false _ _ e
+line-room p k full b = leb-false _ _ (not-so (λ e. clash full (both-true (lt-ltb _ _ b) e)))

@@ -6,7 +6,7 @@ use mathlib.Core.List.{List, [], _∷_, _++_}
 use lib.Dec.{leb, ltb, eqb}
 use Rattle.basics.specs.Choice.{ite, both}
 use Rattle.basics.specs.Below.{oneIf}
-use Rattle.basics.specs.Refusal.{Trial, firstOf}
+use Rattle.basics.specs.Refusal.{Trial, refuse, firstOf}
 use Rattle.tables.specs.Places.{wAt, rAt, holdAt, lineAt}
 use Rattle.form.specs.declared.Operation.{Operation}
 use Rattle.form.specs.declared.Operation.the-variants.{Idle, Writing, FirstWait, SecondWait}
@@ -49,9 +49,6 @@ stray p k b =
 -- 13: "READ that must wait, line has 100"
 unfoldable pub lineFull : Tables → ℕ → Bool
 lineFull p k = both (ltb (wAt (p .w) k) (ownW p)) (leb 100 (lineAt (p .lines) k .len))
-
-abbrev refuse : ℕ → Bool → Trial
-refuse n b = record { number = n; given = b }
 
 -- what every event may meet, and what one from a peer may; room is how many messages the lent area holds
 unfoldable pub firstTrials : Tables → ℕ → List Trial

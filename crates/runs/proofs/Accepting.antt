@@ -1,24 +1,20 @@
 -- "Each message in flight to a powered panel is accepted when delivered." And a start is accepted where the panel accepts it.
 -- Assumes nothing.
-use Prim.Native.Nat.{ℕ, suc, _+_, _-_, _≤_, _<_}
-use mathlib.Core.Path.{_≡_, refl, sym, ap, subst, _∙_}
-use mathlib.Core.Bool.{Bool, true, false, not}
-use mathlib.Core.Logic.{_≢_}
+use Prim.Native.Nat.{ℕ, _-_}
+use mathlib.Core.Path.{_≡_}
+use mathlib.Core.Bool.{true}
 use native.Mathlib.Omega.{arith}
 use Rattle.refusals.specs.Refusals.{refusal}
 use Rattle.refusals.specs.Refusals.Event.{write, read}
 use Rattle.promise.specs.View.{codeOf}
-use Rattle.channels.specs.Channels.{has}
 use Rattle.house.specs.declared.Network.{Network}
-use Rattle.house.specs.Places.{tablesAt, channelOf, downAt, nOf, writerOf}
-use Rattle.house.specs.Search.{live, firstIn}
-use Rattle.house.proofs.Searching.{Hits, found, found-pair}
-use Rattle.steps.specs.Steps.{writeIn, readIn, deliverIn, delivered}
+use Rattle.house.specs.Places.{tablesAt, writerOf}
+use Rattle.house.specs.Search.{firstIn}
+use Rattle.steps.specs.Steps.{writeIn, readIn, deliverIn}
 use Rattle.steps.specs.Drain.{nextIn}
-use Rattle.steps.proofs.Networks.{Good, good-test}
-use Rattle.steps.proofs.Settling.{checked-in-form}
 use Rattle.steps.proofs.Passing.{MayWrite, MayRead, MayDeliver}
 use Rattle.steps.proofs.Accepting.{write-accepted, read-accepted, deliver-accepted}
+use Rattle.steps.proofs.Draining.{next-may}
 use Rattle.runs.proofs.Holding.{Holds}
 use Rattle.runs.proofs.Taking.{message-taken}
 use Rattle.runs.proofs.Sparing.{write-spare, read-spare, deliver-spare}
@@ -35,12 +31,5 @@ module _ (s : Network) (h : Holds s) where
 
   -- what the search finds
   pub next-ok : firstIn s .any ≡ true → codeOf (nextIn s .answer) ≡ 0
-  unfolding nextIn live
-  next-ok e =
-      let f : Hits s (firstIn s) = found s e in
-      deliver-ok (firstIn s .kind) (firstIn s .sender) (firstIn s .receiver)
-      (record { pair = found-pair s (h .good .form) e; live = powered _ (f .receiver-live); there = f .in-flight })
-    where
-      powered : (b : Bool) → not b ≡ true → b ≡ false
-      powered true e = sym e
-      powered false e = refl
+  unfolding nextIn
+  next-ok e = deliver-ok (firstIn s .kind) (firstIn s .sender) (firstIn s .receiver) (next-may s (h .good) e)

@@ -1,14 +1,14 @@
 -- Demand 3: what is true after any list of steps from a fresh network, n, t and writer that fit, and any initial value.
 -- Assumes nothing.
-use Prim.Native.Nat.{ℕ, zero, suc, _+_, _-_, _*_, _≤_, _<_}
+use Prim.Native.Nat.{ℕ, _+_, _-_, _*_, _≤_, _<_}
 use mathlib.Core.Path.{_≡_, refl, sym, ap, subst, subst₂, _∙_}
-use mathlib.Core.Bool.{Bool, true, false, not}
-use mathlib.Core.List.{List, [], _∷_}
-use mathlib.Core.Logic.{_≢_}
+use mathlib.Core.Bool.{true, false}
+use mathlib.Core.List.{List}
 use native.Mathlib.Omega.{arith}
+use borrow.Author.Tests.{not-true}
 use Rattle.form.specs.declared.Operation.the-variants.{Idle}
 use Rattle.form.specs.Form.{fits}
-use Rattle.protocol.specs.World.{World, W}
+use Rattle.protocol.specs.World.{W}
 use Rattle.protocol.specs.Invariant.{none, Inv}
 use Rattle.protocol.specs.Counts as counts
 use Rattle.protocol.proofs.AtFirst.{Fresh, fresh-inv, fresh-begun, fresh-made}
@@ -26,23 +26,18 @@ use Rattle.steps.specs.Numbers.{worldOf}
 use Rattle.steps.specs.SetUp.{freshNetwork}
 use Rattle.steps.proofs.Networks.{good-test, writer-place}
 use Rattle.steps.proofs.Settling.{checked-in-form}
-use Rattle.steps.proofs.AtStart.{start-good, start-n, start-writer, start-waits, start-fresh}
-use Rattle.runs.specs.Runs.{Step, does, after, entries, writes, reads, deliveries}
-use Rattle.runs.specs.Runs.Step.{drain}
+use Rattle.steps.proofs.AtStart.{start-good, start-n, start-waits, start-fresh}
+use Rattle.runs.specs.Runs.{Step, after, entries, writes, reads, deliveries}
 use Rattle.runs.specs.Claims.{Still, AllOrdinary, mostDeliveries}
-use Rattle.runs.proofs.Holding.{Holds, Went}
+use Rattle.runs.proofs.Holding.{Holds}
 use Rattle.runs.proofs.Accepting.{deliver-ok}
 use Rattle.runs.proofs.Quieting.{quiet-idle}
 use Rattle.runs.proofs.Draining.{drain-taken, drain-went, drain-still}
 use Rattle.runs.proofs.Running.{Runs, run-holds}
 
-powered : (b : Bool) → not b ≡ true → b ≡ false
-powered true e = sym e
-powered false e = refl
-
 is-down : (s : Network) (j : ℕ) → live s j ≡ true → downAt s j ≡ false
 unfolding live
-is-down s j u = powered _ u
+is-down s j u = not-true _ u
 
 module _ (n t writer v : ℕ) (ok : fits n t writer ≡ true) where
   abbrev start : Network

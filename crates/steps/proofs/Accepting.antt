@@ -1,4 +1,4 @@
--- When a step of a network in form is accepted: its trials pass, the panel accepts (Taking), and all that it sends finds room.
+-- When a step of a network in form is accepted: its trials pass, the panel accepts, and all that it sends finds room.
 -- Assumes nothing.
 use mathlib.Core.Path.{_≡_, refl, sym, ap, subst, _∙_}
 use mathlib.Core.Bool.{true}

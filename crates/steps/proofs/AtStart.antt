@@ -9,17 +9,19 @@ use native.Mathlib.Omega.{arith}
 use lib.ListN.{length, length-replicate, getD-replicate}
 use borrow.Author.Tests.{le-leb}
 use Rattle.basics.specs.Below.{oneIf, countBelow}
-use Rattle.basics.proofs.Choices.{ite-true, ite-false}
+use Rattle.basics.proofs.Choices.{ite-true, ite-false, not-so}
+use Rattle.basics.proofs.Lists.{getD-same}
 use Rattle.basics.proofs.Below.{length-listBelow, getD-listBelow}
 use Rattle.form.specs.declared.Tables.{Tables}
-use Rattle.form.specs.Form.{fits, isPanel, fresh}
-use Rattle.form.proofs.InForm.{Fits, fits-view}
+use Rattle.form.specs.Form.{fits, fresh}
+use Rattle.form.proofs.InForm.{Fits, fits-view, panel-iff}
 use Rattle.form.proofs.Shape.{Shaped, fresh-shaped}
 use Rattle.unused.proofs.Zero.{fresh-is-unused}
 use Rattle.unused.specs.Unused.{unused}
 use Rattle.panel.specs.declared.Panel.{Panel}
 use Rattle.panel.specs.declared.Made.{Made}
-use Rattle.panel.specs.Calls.{panelOf, nothing, made}
+use Rattle.panel.specs.Calls.{panelOf, made}
+use Rattle.panel.proofs.Calling.{nothing-is, made-elsewhere, made-done}
 use Rattle.protocol.proofs.AtFirst.{Fresh}
 use Rattle.promise.specs.View.{viewOf, Waits}
 use Rattle.promise.specs.Facts.{AllZero}
@@ -33,30 +35,24 @@ use Rattle.channels.proofs.Rows.{length-empty, channel-of-empty}
 use Rattle.channels.proofs.RowForm.{empty-row-ok}
 use Rattle.house.specs.declared.Network.{Network}
 use Rattle.house.specs.Places.{nobody, panelAt, tablesAt, rowAt, downAt, nOf, tOf, writerOf, initialOf}
-use Rattle.house.specs.NetForm.{mayBeDown, downs}
+use Rattle.house.specs.NetForm.{mayBeDown, downsIn, downs}
 use Rattle.house.specs.Whole.{Whole}
-use Rattle.house.proofs.Stores.{down-past}
 use Rattle.house.proofs.NetForms.{Member, FormedAs, formed}
 use Rattle.steps.specs.SetUp.{freshNetwork, setUp}
 use Rattle.steps.specs.Numbers.{worldOf}
 use Rattle.steps.specs.Moves.{AllWait}
 use Rattle.steps.proofs.Networks.{Good}
-use Rattle.steps.proofs.Passing.{panel-iff}
 
 -- ---- set-up of one panel
 
 module _ (n t writer v : ℕ) (ok : fits n t writer ≡ true) where
   made-panel : (i : ℕ) → i < n → made n t writer (i + 1) v .panel ≡ panelOf (fresh n t writer (i + 1) v)
-  unfolding made
-  made-panel i h = ap (λ (m : Made). m .panel) (ite-true _ _ ok ∙ ite-true _ _ (panel-iff n (i + 1) .1 (omega arith, omega arith)))
+  made-panel i h = ap (λ (m : Made). m .panel) (made-done n t writer (i + 1) v ok (panel-iff n (i + 1) .1 (omega arith, omega arith)))
 
   made-nothing : (i : ℕ) → n ≤ i → made n t writer (i + 1) v .panel ≡ panelOf (fresh 0 0 0 0 0)
-  unfolding made nothing
-  made-nothing i h = ap (λ (m : Made). m .panel) (ite-true _ _ ok ∙ ite-false _ _ (past (isPanel n (i + 1)) refl))
-    where
-      past : (b : Bool) → isPanel n (i + 1) ≡ b → isPanel n (i + 1) ≡ false
-      past true e = absurd (omega (arith, panel-iff n (i + 1) .0 e .1))
-      past false e = e
+  made-nothing i h =
+      ap (λ (m : Made). m .panel) (made-elsewhere n t writer (i + 1) v ok (not-so λ e. omega (arith, panel-iff n (i + 1) .0 e .1)))
+      ∙ nothing-is
 
 -- ---- the network
 
@@ -79,14 +75,10 @@ module _ (n t writer v : ℕ) where
 
   pub down-at-first : (i : ℕ) → downAt start i ≡ false
   unfolding freshNetwork
-  down-at-first i = by (decLt i 7)
-    where
-      by : Dec (i < 7) → downAt start i ≡ false
-      by (yes h) = getD-replicate 7 i false false h
-      by (no h) = down-past start i (omega arith) (length-replicate 7 false)
+  down-at-first i = getD-same 7 false i
 
   pub downs-at-first : downs start ≡ 0
-  unfolding freshNetwork downs countBelow oneIf
+  unfolding freshNetwork downsIn countBelow oneIf
   downs-at-first = refl
 
   module _ (ok : fits n t writer ≡ true) where

@@ -7,8 +7,8 @@ use Prim.Native.Nat.{ℕ, _+_, _-_, _<_}
 use native.Mathlib.Decide.{ℕ-discrete}
 use native.Mathlib.Omega.{arith}
 use lib.Dec.{eqb}
-use borrow.Author.Tests.{eq-eqb, ne-eqb}
 use Rattle.basics.specs.Below.{oneIf}
+use Rattle.basics.proofs.Ones.{one-same, nought-apart}
 use Rattle.panel.specs.declared.Next.{Next}
 use Rattle.panel.specs.Calls.{after}
 use Rattle.protocol.specs.World.{World, Out, Starts, Delivers}
@@ -17,7 +17,7 @@ use Rattle.channels.specs.declared.Channel.{Channel}
 use Rattle.channels.specs.declared.Row.{Row}
 use Rattle.channels.specs.Channels.{channelAt, inFlight, less}
 use Rattle.channels.specs.Posting.{taken}
-use Rattle.channels.proofs.Flying.{less-takes}
+use Rattle.channels.proofs.Flying.{has-known, less-takes}
 use Rattle.channels.proofs.Rows.{channel-of-taken, channel-of-taken-ne}
 use Rattle.house.specs.declared.Network.{Network}
 use Rattle.house.specs.Places.{panelAt, rowAt, channelOf, nOf, withRow}
@@ -25,11 +25,11 @@ use Rattle.house.proofs.Stores.{row-with-row, row-with-row-ne}
 use Rattle.steps.specs.Steps.{deliverTrials, deliverIn}
 use Rattle.steps.specs.Numbers.{worldOf}
 use Rattle.steps.specs.Moves.{arriving, deliverOut, Came}
-use Rattle.steps.proofs.Networks.{Good, place-seven}
+use Rattle.steps.proofs.Networks.{Good, at-place, place-seven}
 use Rattle.steps.proofs.Settling.{Done, step-done}
 use Rattle.steps.proofs.Passing.{sender-place, receiver-place, places-apart, MayDeliver, may-deliver}
 use Rattle.steps.proofs.Keeping.{taken-kept}
-use Rattle.steps.proofs.Taking.{would-come}
+use Rattle.steps.proofs.Arriving.{message-came}
 use Rattle.steps.proofs.Moves.{done-starts, done-panel, done-answer, done-code}
 
 -- ---- the message is taken
@@ -37,14 +37,6 @@ use Rattle.steps.proofs.Moves.{done-starts, done-panel, done-answer, do
 -- the network without the message
 abbrev pub without : Network → ℕ → ℕ → ℕ → Network
 without s k i j = withRow s (i - 1) (taken (rowAt s (i - 1)) (j - 1) k)
-
-one-kind : (k : ℕ) → oneIf (eqb k k) ≡ 1
-unfolding oneIf
-one-kind k = ap oneIf (eq-eqb k k refl)
-
-none-kind : (x k : ℕ) → x ≢ k → oneIf (eqb x k) ≡ 0
-unfolding oneIf
-none-kind x k d = ap oneIf (ne-eqb x k d)
 
 module _ (s : Network) (g : Good s) (k i j : ℕ) (m : MayDeliver s k i j) where
   abbrev q : ℕ
@@ -87,7 +79,7 @@ module _ (s : Network) (g : Good s) (k i j : ℕ) (m : MayDeliver s k i j) where
           ∙ ap (λ (y : ℕ). inFlight (channelOf s y l) x) (sym e)
       by (yes e) (yes f) =
           ap₂ (λ (y z : ℕ). inFlight (channelOf (without s k i j) y z) x) e f
-          ∙ omega (arith, less-at x, none-kind x k (other e f))
+          ∙ omega (arith, less-at x, nought-apart (other e f))
           ∙ ap₂ (λ (y z : ℕ). inFlight (channelOf s y z) x) (sym e) (sym f)
 
 -- ---- and its receiver acts
@@ -108,7 +100,7 @@ both-moved s g k i j m out s′ h =
     record {
       others = h .others;
       sent = λ l x. h .sent l x ∙ ap (λ (y : ℕ). y + out l x) (less-else s g k i j m (j - 1) l x (λ e. absurd (d (sym e))));
-      gone = omega (arith, h .flown (i - 1) (j - 1) k d, less-at s g k i j m k, one-kind k);
+      gone = omega (arith, h .flown (i - 1) (j - 1) k d, less-at s g k i j m k, one-same {m = k} refl);
       flown = λ a l x e other. h .flown a l x e ∙ less-else s g k i j m a l x other;
     }
 
@@ -127,5 +119,5 @@ deliver-moves s g k i j ok =
       answered = done-answer s₁ g₁ p within q d;
       delivers = both-moved s g k i j m (deliverOut s k i j) _ (done-starts s₁ g₁ p within q d);
       came = done-panel s₁ g₁ p within q d (Came (nOf s) p (i - 1) k (worldOf s .panel p) (deliverOut s k i j))
-          (would-come s g k i j m (done-code s₁ p (arriving s k i j) d));
+          (message-came (nOf s) p (panelAt s p) (at-place s g p within) k i _ (has-known _ k (m .there)) (done-code s₁ p (arriving s k i j) d));
     }

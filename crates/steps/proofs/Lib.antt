@@ -4,7 +4,6 @@ pub mod Settling
 pub mod Passing
 pub mod Keeping
 pub mod Arriving
-pub mod Taking
 pub mod Moves
 pub mod Delivering
 pub mod Falling

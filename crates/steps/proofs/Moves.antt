@@ -15,6 +15,7 @@ use Rattle.protocol.specs.World.{View, Starts}
 use Rattle.protocol.specs.Promise.{Writes, Reads}
 use Rattle.promise.specs.View.{viewOf, outOf, codeOf}
 use Rattle.promise.proofs.AfterEvents.{after-code}
+use Rattle.promise.proofs.AtPlace.{at-write, at-read}
 use Rattle.channels.specs.declared.Row.{Row}
 use Rattle.channels.specs.Channels.{channelAt, inFlight}
 use Rattle.channels.specs.Posting.{postedAll}
@@ -25,10 +26,9 @@ use Rattle.steps.specs.declared.Stepped.{Stepped}
 use Rattle.steps.specs.Steps.{writeTrials, readTrials, loseTrials, writeIn, readIn, loseIn}
 use Rattle.steps.specs.Numbers.{worldOf}
 use Rattle.steps.specs.Moves.{writeOut, readOut}
-use Rattle.steps.proofs.Networks.{Good, place-seven, writer-place}
+use Rattle.steps.proofs.Networks.{Good, at-place, place-seven, writer-place}
 use Rattle.steps.proofs.SentOut.{sent-adds}
 use Rattle.steps.proofs.Settling.{Done, step-done, tried-case}
-use Rattle.steps.proofs.Taking.{would-write, would-read}
 use Rattle.steps.proofs.Passing.{MayWrite, may-write, MayRead, may-read}
 
 -- ---- a step that is done: the panel at place p of s has come to q
@@ -86,7 +86,8 @@ write-moves s g v ok =
       may = may-write s .0 (d .trials);
       answered = done-answer s g p (writer-place s g) q d;
       starts = done-starts s g p (writer-place s g) q d;
-      writes = done-panel s g p (writer-place s g) q d (Writes (nOf s) p (worldOf s .panel p) (writeOut s v)) (would-write s g v (done-code s p (write v) d));
+      writes = done-panel s g p (writer-place s g) q d (Writes (nOf s) p (worldOf s .panel p) (writeOut s v))
+          (at-write (nOf s) p (panelAt s p) (at-place s g p (writer-place s g)) v (done-code s p (write v) d));
     }
 
 -- ---- a read
@@ -109,7 +110,8 @@ read-moves s g i ok =
       may = m;
       answered = done-answer s g p within q d;
       starts = done-starts s g p within q d;
-      reads = done-panel s g p within q d (Reads (nOf s) p (worldOf s .panel p) (readOut s i)) (would-read s g i within (done-code s p read d));
+      reads = done-panel s g p within q d (Reads (nOf s) p (worldOf s .panel p) (readOut s i))
+          (at-read (nOf s) p (panelAt s p) (at-place s g p within) (done-code s p read d));
     }
 
 -- ---- power loss

@@ -1,31 +1,22 @@
 -- What a step that passes its trials has passed, and that it passes them where that holds.
 -- Assumes nothing.
-use mathlib.Core.Path.{_≡_, refl, ap, _∙_}
-use mathlib.Core.Bool.{Bool, true, false, not}
+use mathlib.Core.Path.{_≡_, ap, _∙_}
+use mathlib.Core.Bool.{true, false, not}
 use mathlib.Core.Logic.{_↔_, _≢_}
 use Prim.Native.Nat.{ℕ, _+_, _-_, _≤_, _<_}
 use native.Mathlib.Omega.{arith}
 use lib.Dec.{lit<}
-use borrow.Author.Tests.{leb-true, le-leb, eqb-false, ne-eqb, not-true}
+use borrow.Author.Tests.{eqb-false, ne-eqb, not-true, not-false}
 use Rattle.basics.specs.Refusal.{firstOf}
-use Rattle.basics.proofs.Choices.{clash, both-left, both-right, both-true}
+use Rattle.basics.proofs.Choices.{both-left, both-right, both-true}
 use Rattle.basics.proofs.Refusals.{passed, first-not, first-none}
-use Rattle.form.specs.Form.{isPanel}
+use Rattle.form.proofs.InForm.{panel-iff}
 use Rattle.channels.specs.Channels.{has}
 use Rattle.house.specs.declared.Network.{Network}
 use Rattle.house.specs.Places.{channelOf, downAt, nOf, tOf, writerOf}
 use Rattle.house.specs.NetForm.{mayBeDown, downs}
 use Rattle.house.proofs.Searching.{Pair}
 use Rattle.steps.specs.Steps.{isPair, writeTrials, readTrials, deliverTrials, loseTrials}
-
--- a test that came out false, of what must hold
-holds : (b : Bool) → not b ≡ false → b ≡ true
-holds true e = refl
-holds false e = clash e refl
-
-pub panel-iff : (n i : ℕ) → (isPanel n i ≡ true) ↔ ((1 ≤ i) × (i ≤ n))
-unfolding isPanel
-panel-iff n i = (λ e. (leb-true _ _ (both-left _ _ e), leb-true _ _ (both-right _ _ e)), λ h. both-true (le-leb _ _ (h .0)) (le-leb _ _ (h .1)))
 
 pub pair-iff : (n i j : ℕ) → (isPair n i j ≡ true) ↔ Pair n i j
 unfolding isPair
@@ -79,7 +70,7 @@ unfolding readTrials
 may-read s i = (
   λ z.
       let p = passed (readTrials s i) (lit< tt, (lit< tt, tt)) z in
-      let b = panel-iff (nOf s) i .0 (holds _ (p .0)) in
+      let b = panel-iff (nOf s) i .0 (not-false _ (p .0)) in
       record { low = b .0; high = b .1; live = p .1 .0 },
   λ h. first-not _ _ (ap not (panel-iff (nOf s) i .1 (h .low, h .high))) ∙ first-not _ _ (h .live) ∙ first-none,
 )
@@ -96,7 +87,7 @@ unfolding deliverTrials
 may-deliver s k i j = (
   λ z.
       let p = passed (deliverTrials s k i j) (lit< tt, (lit< tt, (lit< tt, tt))) z in
-      record { pair = pair-iff (nOf s) i j .0 (holds _ (p .0)); live = p .1 .0; there = holds _ (p .1 .1 .0) },
+      record { pair = pair-iff (nOf s) i j .0 (not-false _ (p .0)); live = p .1 .0; there = not-false _ (p .1 .1 .0) },
   λ h.
       first-not _ _ (ap not (pair-iff (nOf s) i j .1 (h .pair)))
       ∙ first-not _ _ (h .live)
@@ -117,8 +108,8 @@ unfolding loseTrials
 may-lose s i = (
   λ z.
       let p = passed (loseTrials s i) (lit< tt, (lit< tt, (lit< tt, tt))) z in
-      let b = panel-iff (nOf s) i .0 (holds _ (p .0)) in
-      record { low = b .0; high = b .1; live = p .1 .0; one-more = holds _ (p .1 .1 .0) },
+      let b = panel-iff (nOf s) i .0 (not-false _ (p .0)) in
+      record { low = b .0; high = b .1; live = p .1 .0; one-more = not-false _ (p .1 .1 .0) },
   λ h.
       first-not _ _ (ap not (panel-iff (nOf s) i .1 (h .low, h .high)))
       ∙ first-not _ _ (h .live)

@@ -46,20 +46,6 @@ module _ (s : Network) (a : Stepped) where
   unfolding checked
   checked-refused h = ite-false _ _ h
 
-  -- a call that is not refused: the network is in form, and the step is not refused
-  pub record Checked : Type 0 where
-    pub form : netForm s ≡ true
-    pub code : codeOf (a .answer) ≡ 0
-    pub is : checked s a ≡ a
-
-  pub checked-accepted : codeOf (checked s a .answer) ≡ 0 → Checked
-  checked-accepted z = by (netForm s) refl
-    where
-      by : (b : Bool) → netForm s ≡ b → Checked
-      by true e =
-          record { form = e; code = subst (λ (x : Stepped). codeOf (x .answer) ≡ 0) (checked-in-form e) z; is = checked-in-form e }
-      by false e = not-refused {k = 2} (omega arith) (subst (λ (x : Stepped). codeOf (x .answer) ≡ 0) (checked-refused e) z)
-
 -- ---- then the step's own trials
 
 module _ (ts : List Trial) (s : Network) (a : Stepped) where

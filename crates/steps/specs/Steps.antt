@@ -6,7 +6,7 @@ use mathlib.Core.Bool.{Bool, true, false, not}
 use mathlib.Core.List.{List, [], _∷_}
 use lib.Dec.{eqb}
 use Rattle.basics.specs.Choice.{ite, both}
-use Rattle.basics.specs.Refusal.{Trial, firstOf}
+use Rattle.basics.specs.Refusal.{Trial, refuse, firstOf}
 use Rattle.form.specs.Form.{isPanel}
 use Rattle.refusals.specs.Refusals.{Event}
 use Rattle.refusals.specs.Refusals.Event.{write, read, writeFrom, readFrom, proceedFrom}
@@ -29,9 +29,6 @@ refusedBy s k = record { network = s; answer = Refused k }
 -- where no trial is met, a; else the first that is
 unfoldable pub tried : List Trial → Network → Stepped → Stepped
 tried ts s a = ite (eqb (firstOf ts) 0) a (refusedBy s (firstOf ts))
-
-abbrev refuse : ℕ → Bool → Trial
-refuse n b = record { number = n; given = b }
 
 -- ---- what is tried: 4, 5, 9 and 10 here, 7, 8 and 11 to 13 by the panel, 14 last
 

@@ -6,6 +6,7 @@ use mathlib.Core.Logic.{_↔_}
 use mathlib.Core.List.{List, [], _∷_, _++_, map}
 use Prim.Native.Nat.{ℕ, zero, suc, _+_, _-_, _≤_, _<_}
 use native.Mathlib.Nat.{add-zero, add-suc, le-refl, le-trans}
+use native.Mathlib.Decide.{decLt}
 use native.Mathlib.Omega.{arith}
 use lib.Dec.{leb, ltb, eqb}
 use lib.ListN.{length, getD, replicate}
@@ -136,6 +137,14 @@ module _ (l : Line) (low high : ℕ) where
   unfolding lineOk
   lineOk-iff =
       (formed, λ f. both-true (le-leb _ _ (f .short)) (all-of 100 (entryOk l low high) (λ k h. entry-ok f k h (ltb k (l .len)) refl)))
+
+-- nothing waits in a line whose peer knows as much
+pub level-empty : {l : Line} {low high : ℕ} → LineForm l low high → low ≡ high → l .len ≡ 0
+level-empty {l} f e = by (decLt 0 (l .len))
+  where
+    by : Dec (0 < l .len) → l .len ≡ 0
+    by (yes h) = absurd (omega (arith, f .above 0 h, f .within 0 h))
+    by (no h) = omega arith
 
 -- ---- a hold
 

@@ -112,16 +112,6 @@ module _ (l : Line) (x : ℕ) where
   unfolding leaving
   leaving-stops h = subst (λ (j : ℕ). x < wAt (l .sn) j) (zero-add _) (leads (l .len) 0 .stops h)
 
--- a READ at most at w[j] waits in no line that is in form
-pub leaving-none : (l : Line) (x low high : ℕ) → LineForm l low high → x ≤ low → leaving l x ≡ 0
-leaving-none l x low high f h = none (leaving l x) refl
-  where
-    none : (n : ℕ) → leaving l x ≡ n → leaving l x ≡ 0
-    none zero e = e
-    none (suc n) e =
-        let first : wAt (l .sn) 0 ≤ x = leaving-below l x 0 (omega (arith, e)) in
-        absurd (omega (arith, f .above 0 (omega (arith, leaving-most l x, e))))
-
 -- ---- lines kept in form
 
 pub raised-form : (l : Line) (low high high′ : ℕ) → LineForm l low high → high ≤ high′ → LineForm l low high′

@@ -46,10 +46,6 @@ module _ (n : ℕ) (f : ℕ → Bool) where
   unfolding among
   among-past j h = both-false-left (f j) (le-ltb j n h)
 
-  pub length-marks : length (marks n f) ≡ 7
-  unfolding marks
-  length-marks = length-listBelow 7 (among n f)
-
   pub getD-marks : (j : ℕ) → j < 7 → getD (marks n f) j false ≡ among n f j
   unfolding marks
   getD-marks j h = getD-listBelow 7 (among n f) j false h
@@ -59,6 +55,10 @@ pub enough-marked : (n t : ℕ) (f : ℕ → Bool) → leb (n - t) (countBelow 7
 unfolding enough
 enough-marked n t f = ap (leb (n - t)) (count-alike 7 _ (among n f) (getD-marks n f))
 
+pub only-at : (k j : ℕ) → j < 7 → getD (onlyPlace k) j false ≡ eqb j k
+unfolding onlyPlace
+only-at k j h = getD-listBelow 7 (λ (i : ℕ). eqb i k) j false h
+
 -- setting one place marks it alone
 pub only-set : (k : ℕ) → set (replicate 7 false) k true ≡ onlyPlace k
 unfolding onlyPlace
@@ -67,16 +67,16 @@ only-set k = ext-getD false _ _ (long ∙ sym (length-listBelow 7 (λ (j : ℕ).
     long : length (set (replicate 7 false) k true) ≡ 7
     long = length-set (replicate 7 false) k true
 
-    at : (i : ℕ) → i < 7 → (b : Bool) → eqb i k ≡ b → getD (set (replicate 7 false) k true) i false ≡ getD (listBelow 7 (λ (j : ℕ). eqb j k)) i false
+    at : (i : ℕ) → i < 7 → (b : Bool) → eqb i k ≡ b → getD (set (replicate 7 false) k true) i false ≡ getD (onlyPlace k) i false
     at i l true e =
         let same : i ≡ k = eqb-true _ _ e in
         ap (λ (m : ℕ). getD (set (replicate 7 false) k true) m false) same
         ∙ getD-set-same (replicate 7 false) k true false (omega (arith, l, same))
-        ∙ sym (getD-listBelow 7 (λ (j : ℕ). eqb j k) i false l ∙ e)
+        ∙ sym (only-at k i l ∙ e)
     at i l false e =
         getD-set-other (replicate 7 false) k i true false (eqb-false _ _ e)
         ∙ getD-replicate 7 i false false l
-        ∙ sym (getD-listBelow 7 (λ (j : ℕ). eqb j k) i false l ∙ e)
+        ∙ sym (only-at k i l ∙ e)
 
 -- past the seven places nothing is marked
 pub only-none : (k : ℕ) → 7 ≤ k → replicate 7 false ≡ onlyPlace k

@@ -1,12 +1,11 @@
 -- The laws of enough panels: any two sets of them meet, all but t are enough, and more of them are enough too.
 -- Assumes nothing.
-use mathlib.Core.Path.{_≡_, refl, sym, ap, _∙_}
-use mathlib.Core.Bool.{Bool, true, false, not}
+use mathlib.Core.Path.{_≡_, ap, _∙_}
+use mathlib.Core.Bool.{Bool, true, not}
 use Prim.Native.Nat.{ℕ, zero, suc, _+_, _-_, _*_, _≤_, _<_}
 use native.Mathlib.Nat.{add-zero, add-suc}
 use native.Mathlib.Omega.{arith}
-use lib.Dec.{leb, ltb}
-use borrow.Author.Tests.{le-leb, leb-true, ltb-true, ltb-false}
+use borrow.Author.Tests.{le-leb, leb-true, ltb-true}
 use Rattle.basics.specs.Below.{oneIf, countBelow}
 use Rattle.basics.proofs.Below.{count-alike}
 use Rattle.basics.proofs.Choices.{both-left, both-right, both-true}
@@ -48,11 +47,3 @@ module _ (n t : ℕ) where
       let more : countBelow 7 (among n f) ≤ countBelow 7 (among n g) = count-more 7 (among n f) (among n g) (λ k l a. both-true (both-left _ _ a) (h k (ltb-true _ _ (both-left _ _ a)) (both-right _ _ a))) in
       let c : n - t ≤ countBelow 7 (among n g) = omega arith in
       le-leb _ _ c
-
-  among-alike : (f g : ℕ → Bool) → ((j : ℕ) → j < n → f j ≡ g j) → (k : ℕ) → (b : Bool) → ltb k n ≡ b → among n f k ≡ among n g k
-  among-alike f g h k true e = let l : k < n = ltb-true _ _ e in among-below n f k l ∙ h k l ∙ sym (among-below n g k l)
-  among-alike f g h k false e = let l : n ≤ k = ltb-false _ _ e in among-past n f k l ∙ sym (among-past n g k l)
-
-  pub enough-alike : (f g : ℕ → Bool) → ((j : ℕ) → j < n → f j ≡ g j) → enough n t f ≡ enough n t g
-  unfolding enough
-  enough-alike f g h = ap (leb (n - t)) (count-alike 7 (among n f) (among n g) (λ k l. among-alike f g h k (ltb k n) refl))

@@ -3,19 +3,14 @@
 use mathlib.Core.Path.{_≡_, refl, sym, ap, _∙_}
 use mathlib.Core.List.{List, [], _∷_, _++_}
 use Prim.Native.Nat.{ℕ, zero, suc, _+_, _-_, _/_, _%_, _≤_, _<_}
-use native.Mathlib.Nat.{add-zero, add-suc, suc-add, zero-add, sub-zero, zero-sub, suc-sub-suc}
+use native.Mathlib.Nat.{zero-add, sub-zero, zero-sub, suc-sub-suc}
 use native.Mathlib.Omega.{arith}
-use lib.ListN.{length, getD, set, take, drop, replicate, length-append, length-replicate}
+use lib.ListN.{length, set, take, drop, replicate, length-append, length-replicate}
 use lib.Seq.{sets, sets-eq, set-comm, take-append-seam}
+use Rattle.basics.proofs.Lists.{sets-append}
 use Rattle.text.specs.declared.Text.{Text}
 use Rattle.text.specs.Text.{dec, textOf, appended, Appended}
 use Rattle.text.proofs.Decimal.{dec-small, dec-more, length-small}
-
-sets-append : (a b l : List ℕ) (i : ℕ) → sets l i (a ++ b) ≡ sets (sets l i a) (i + length a) b
-sets-append [] b l i = ap (λ (k : ℕ). sets l k b) (sym (add-zero i))
-sets-append (x ∷ a) b l i =
-    sets-append a b (set l i x) (suc i)
-    ∙ ap (λ (k : ℕ). sets (sets (set l i x) (suc i) a) k b) (suc-add i (length a) ∙ sym (add-suc i (length a)))
 
 -- a store behind what is laid may come first
 set-first : (xs l : List ℕ) (i j d : ℕ) → i + length xs ≤ j → sets (set l j d) i xs ≡ set (sets l i xs) j d
@@ -89,22 +84,6 @@ from-nothing bs h =
     ∙ ap (λ (x : List ℕ). bs ++ x) (drop-zeros (length bs) 40))
 
 -- ---- what a text shows
-
-at-zeros : (n k : ℕ) → getD (zeros n) k 0 ≡ 0
-unfolding zeros
-at-zeros zero k = refl
-at-zeros (suc n) zero = refl
-at-zeros (suc n) (suc k) = at-zeros n k
-
-before-zeros : (xs : List ℕ) (n k : ℕ) → getD (xs ++ zeros n) k 0 ≡ getD xs k 0
-before-zeros [] n k = at-zeros n k
-before-zeros (x ∷ xs) n zero = refl
-before-zeros (x ∷ xs) n (suc k) = before-zeros xs n k
-
--- its places hold the bytes, and zero past them
-pub text-at : (bs : List ℕ) (k : ℕ) → getD (textOf bs .bytes) k 0 ≡ getD bs k 0
-unfolding textOf zeros
-text-at bs k = before-zeros bs (40 - length bs) k
 
 pub text-shows : (bs : List ℕ) → take (textOf bs .length) (textOf bs .bytes) ≡ bs
 unfolding textOf

@@ -4,6 +4,7 @@
 
 use crate::listing::LONGEST;
 use crate::network::{Delivery, Network};
+use crate::panel::place;
 use crate::random::Random;
 use crate::schedule::Record;
 use crate::wire::{READ, WRITE0, WRITE1};
@@ -44,15 +45,9 @@ impl Mood {
 }
 
 impl Driver {
-    /// Any n, and any t and writer that fit.
+    /// Of any sizes that fit.
     pub(crate) fn fresh(mut random: Random) -> Driver {
-        let n = random.between(1, PANELS as u8);
-        let t = random.between(0, (n - 1) / 2);
-        let writer = random.between(1, n);
-        Driver::with_sizes(random, n, t, writer)
-    }
-
-    pub(crate) fn with_sizes(mut random: Random, n: u8, t: u8, writer: u8) -> Driver {
+        let (n, t, writer) = random.sizes();
         let initial = random.value();
         let network = Network::set_up(n, t, writer, initial).expect("sizes that fit");
         let mut schedule = Vec::new();
@@ -224,8 +219,4 @@ impl Driver {
             self.record(Record::Deliver(message));
         }
     }
-}
-
-fn place(number: u8) -> usize {
-    usize::from(number) - 1
 }

@@ -92,8 +92,7 @@ fn first_record(mut random: Random) -> Vec<u8> {
 
 /// One of n, t and writer out of range.
 fn refused_set_up(random: &mut Random) -> Vec<u8> {
-    let n = random.between(1, 7);
-    let (t, writer) = (random.between(0, (n - 1) / 2), random.between(1, n));
+    let (n, t, writer) = random.sizes();
     let too_many = random.pick(&[n / 2 + n % 2, n, 128, 255]);
     let (n, t, writer) = match random.below(3) {
         0 => (random.pick(&[0, 8, 9, 255]), t, writer),

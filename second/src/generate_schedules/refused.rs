@@ -18,9 +18,8 @@ impl Driver {
             _ => Record::PowerLoss { panel: self.any_panel() },
         };
         // A power loss is wanted here only when it is refused, 10 among the reasons.
-        let first = &self.network.panels[0];
-        let down = self.network.down.iter().filter(|&&down| down).count();
-        if !matches!(record, Record::PowerLoss { .. }) || down == usize::from(first.t) {
+        let t = usize::from(self.network.panels[0].t);
+        if !matches!(record, Record::PowerLoss { .. }) || self.network.how_many_down() == t {
             self.record(record);
         }
     }

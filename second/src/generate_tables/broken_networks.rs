@@ -125,7 +125,7 @@ fn break_agreement(random: &mut Random, network: &mut Network, clause: NetworkCl
 fn break_power(random: &mut Random, network: &mut Network, n: usize) -> bool {
     let t = usize::from(network.panels[0].t);
     let wanted = t + 1 + random.below(n - t);
-    while network.down.iter().filter(|&&down| down).count() < wanted {
+    while network.how_many_down() < wanted {
         network.down[random.below(n)] = true;
     }
     true

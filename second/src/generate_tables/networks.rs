@@ -3,9 +3,10 @@
 use super::panels::panel_with;
 use crate::generate_schedules::driver::Driver;
 use crate::network::{Channel, Network, Slot};
+use crate::panel::place;
 use crate::random::Random;
 use crate::tables;
-use crate::{PANELS, READS};
+use crate::READS;
 
 pub fn network_in_form(random: &mut Random) -> Network {
     match random.below(4) {
@@ -17,14 +18,12 @@ pub fn network_in_form(random: &mut Random) -> Network {
 
 /// Panels and channels that know nothing of each other.
 pub fn network_by_hand(random: &mut Random) -> Network {
-    let n = random.between(1, PANELS as u8);
-    let t = random.between(0, (n - 1) / 2);
-    let writer = random.between(1, n);
+    let (n, t, writer) = random.sizes();
     let initial = random.value();
     let mut network = Network::ZERO;
     for number in 1..=n {
         let panel = panel_with(random, n, t, writer, number, initial);
-        network.panels[usize::from(number) - 1] = panel;
+        network.panels[place(number)] = panel;
     }
     for _ in 0..random.between(0, t) {
         network.down[random.below(n.into())] = true;
@@ -94,5 +93,5 @@ fn change_a_byte(random: &mut Random, network: &mut Network) {
     let mut bytes = tables::network_to_bytes(network);
     let place = random.below(bytes.len());
     bytes[place] = random.pick(&[0, 1, 2, 3, 100, 200]);
-    *network = tables::network_from_bytes(bytes.as_slice().try_into().expect("its length"));
+    *network = tables::network_from_bytes(&bytes);
 }

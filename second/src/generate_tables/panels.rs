@@ -1,21 +1,20 @@
 //! Panels in form with much in them: holds, lines up to full, every operation, numbers near their ends.
 
-use crate::panel::{Held, Line, Operation, Panel, ReadNumber, WriteNumber};
+use crate::panel::{place, Held, Line, Operation, Panel, ReadNumber, WriteNumber};
 use crate::panel::{FIRST_WAIT, NONE, SECOND_WAIT, WRITING};
 use crate::random::Random;
-use crate::{PANELS, READS, WRITES};
+use crate::{READS, WRITES};
 
 /// A panel of any sizes that fit.
 pub fn panel_in_form(random: &mut Random) -> Panel {
-    let n = random.between(1, PANELS as u8);
-    let t = random.between(0, (n - 1) / 2);
-    let (writer, number) = (random.between(1, n), random.between(1, n));
+    let (n, t, writer) = random.sizes();
+    let number = random.between(1, n);
     let initial = random.value();
     panel_with(random, n, t, writer, number, initial)
 }
 
 /// A panel in form of the sizes given, which fit.
-pub fn panel_with(
+pub(super) fn panel_with(
     random: &mut Random,
     n: u8,
     t: u8,
@@ -23,10 +22,9 @@ pub fn panel_with(
     number: u8,
     initial: u32,
 ) -> Panel {
-    let mut panel = Panel { n, t, writer, number, ..Panel::ZERO };
-    panel.history[0] = initial;
+    let mut panel = Panel::set_up(n, t, writer, number, initial).expect("sizes that fit");
     fill_numbers(random, &mut panel);
-    for j in panel.places().filter(|&j| j != usize::from(number) - 1) {
+    for j in panel.places().filter(|&j| j != place(number)) {
         fill_held(random, &mut panel, j);
         fill_line(random, &mut panel, j);
     }

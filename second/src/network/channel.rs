@@ -24,7 +24,7 @@ impl Slot {
 }
 
 impl Channel {
-    pub const EMPTY: Channel = Channel { writes: [Slot::EMPTY; 2], reads: 0, proceeds: 0 };
+    pub(crate) const EMPTY: Channel = Channel { writes: [Slot::EMPTY; 2], reads: 0, proceeds: 0 };
 
     pub(crate) fn is_empty(&self) -> bool {
         !(self.writes[0].full | self.writes[1].full) && (self.reads | self.proceeds) == 0

@@ -27,9 +27,7 @@ impl Network {
 
     /// At most t are down; no flag past n.
     fn power_fits(&self, n: usize, t: u8) -> bool {
-        let (used, unused) = self.down.split_at(n);
-        let down = used.iter().filter(|&&down| down).count();
-        down <= usize::from(t) && unused.iter().all(|&down| !down)
+        self.how_many_down() <= usize::from(t) && self.down[n..].iter().all(|&down| !down)
     }
 
     /// No panel sends to itself; a channel past n or on the diagonal is empty.

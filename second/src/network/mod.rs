@@ -3,11 +3,11 @@
 
 mod channel;
 mod form;
-pub(crate) mod steps;
+mod steps;
 
 pub use channel::{Channel, Slot};
 
-use crate::panel::{Finish, Panel};
+use crate::panel::{place, Finish, Panel};
 use crate::refusal::Refusal;
 use crate::PANELS;
 
@@ -42,7 +42,7 @@ impl Network {
         let mut network = Network::ZERO;
         for number in 1..=n {
             let panel = Panel { number, ..first.clone() };
-            network.panels[usize::from(number) - 1] = panel;
+            network.panels[place(number)] = panel;
         }
         Ok(network)
     }

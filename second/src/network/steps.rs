@@ -3,7 +3,7 @@
 
 use super::{Delivery, Network};
 use crate::panel::area::Outgoing;
-use crate::panel::{Finish, Panel};
+use crate::panel::{place, Finish, Panel};
 use crate::refusal::Refusal;
 use crate::AREA;
 
@@ -16,9 +16,13 @@ impl Network {
         (1..=self.n()).contains(&number)
     }
 
+    pub(crate) fn how_many_down(&self) -> usize {
+        self.down.iter().filter(|&&down| down).count()
+    }
+
     /// Refusals 5, 7, 8, 14. The network starts a write at the writer, so 6 cannot be met.
     pub(crate) fn step_write(&mut self, v: u32) -> Result<Finish, Refusal> {
-        let i = usize::from(self.panels[0].writer) - 1;
+        let i = place(self.panels[0].writer);
         Refusal::Down.when(self.down[i])?;
         self.panels[i].judge_write()?;
         self.act(i, |panel, out| panel.begin_write(v, out))
@@ -36,7 +40,7 @@ impl Network {
         let Delivery { kind, sender, receiver } = message;
         Refusal::PanelNumber.when(!self.is_panel(sender) || sender == receiver)?;
         let i = self.powered(receiver)?;
-        let j = usize::from(sender) - 1;
+        let j = place(sender);
         let channel = &self.channels[j][i];
         Refusal::NotInFlight.when(!channel.has(kind))?;
         let value = channel.value(kind);
@@ -49,8 +53,7 @@ impl Network {
     /// Refusals 4, 5, 10.
     pub(crate) fn step_power_loss(&mut self, panel: u8) -> Result<(), Refusal> {
         let i = self.powered(panel)?;
-        let down = self.down.iter().filter(|&&down| down).count();
-        Refusal::TooManyDown.when(down >= usize::from(self.panels[0].t))?;
+        Refusal::TooManyDown.when(self.how_many_down() >= usize::from(self.panels[0].t))?;
         self.down[i] = true;
         Ok(())
     }
@@ -102,7 +105,7 @@ impl Network {
     /// Refusals 4 and 5 for the panel that should act, receive or lose power; gives its place.
     fn powered(&self, number: u8) -> Result<usize, Refusal> {
         Refusal::PanelNumber.when(!self.is_panel(number))?;
-        let i = usize::from(number) - 1;
+        let i = place(number);
         Refusal::Down.when(self.down[i])?;
         Ok(i)
     }
@@ -119,7 +122,7 @@ impl Network {
         let (mut panel, mut row) = (self.panels[i].clone(), self.channels[i]);
         let finish = event(&mut panel, &mut out);
         for k in 0..out.reply(finish).messages {
-            row[usize::from(receivers[k]) - 1].send(kinds[k], values[k])?;
+            row[place(receivers[k])].send(kinds[k], values[k])?;
         }
         self.panels[i] = panel;
         self.channels[i] = row;

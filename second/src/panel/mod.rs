@@ -52,7 +52,7 @@ pub struct Operation {
     pub sn: WriteNumber,
 }
 
-pub const NONE: u8 = 0;
+pub(crate) const NONE: u8 = 0;
 pub const WRITING: u8 = 1;
 pub const FIRST_WAIT: u8 = 2;
 pub const SECOND_WAIT: u8 = 3;
@@ -73,8 +73,13 @@ pub struct Reply {
     pub messages: usize,
 }
 
+/// The place of a panel's number, which is at least 1.
+pub(crate) fn place(number: u8) -> usize {
+    usize::from(number) - 1
+}
+
 impl Held {
-    pub const EMPTY: Held = Held { full: false, value: 0 };
+    pub(crate) const EMPTY: Held = Held { full: false, value: 0 };
 }
 
 impl Line {
@@ -82,7 +87,7 @@ impl Line {
 }
 
 impl Operation {
-    pub const NONE: Operation = Operation { stage: NONE, sn: WriteNumber::ZERO };
+    pub(crate) const NONE: Operation = Operation { stage: NONE, sn: WriteNumber::ZERO };
 }
 
 impl Panel {

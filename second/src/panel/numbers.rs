@@ -8,7 +8,7 @@ pub struct WriteNumber(pub u8);
 
 impl WriteNumber {
     pub const ZERO: WriteNumber = WriteNumber(0);
-    pub const LAST: WriteNumber = WriteNumber(WRITES as u8);
+    pub(crate) const LAST: WriteNumber = WriteNumber(WRITES as u8);
 
     /// For numbers up to `LAST`, of which the second next is wanted at most.
     pub(crate) fn next(self) -> WriteNumber {
@@ -30,8 +30,8 @@ impl WriteNumber {
 pub struct ReadNumber(pub u8);
 
 impl ReadNumber {
-    pub const ZERO: ReadNumber = ReadNumber(0);
-    pub const LAST: ReadNumber = ReadNumber(READS as u8);
+    pub(crate) const ZERO: ReadNumber = ReadNumber(0);
+    pub(crate) const LAST: ReadNumber = ReadNumber(READS as u8);
 
     pub(crate) fn next(self) -> ReadNumber {
         ReadNumber(self.0 + 1)

@@ -3,7 +3,7 @@
 
 use super::area::Outgoing;
 use super::form::in_range;
-use super::{Finish, Held, Line, Operation, Panel, ReadNumber, WriteNumber};
+use super::{place, Finish, Held, Line, Operation, Panel, ReadNumber, WriteNumber};
 use super::{FIRST_WAIT, NONE, SECOND_WAIT, WRITING};
 use crate::refusal::Refusal;
 use crate::wire::{PROCEED, READ, WRITE0, WRITE1};
@@ -12,7 +12,7 @@ use std::ops::Range;
 
 impl Panel {
     pub(crate) fn own(&self) -> usize {
-        usize::from(self.number) - 1
+        place(self.number)
     }
 
     pub(crate) fn own_w(&self) -> WriteNumber {
@@ -44,7 +44,7 @@ impl Panel {
     /// Refusals 4, 11, 12, 13, 15.
     pub(crate) fn judge_delivery(&self, kind: u8, sender: u8) -> Result<(), Refusal> {
         Refusal::PanelNumber.when(!in_range(sender, self.n) || sender == self.number)?;
-        let j = usize::from(sender) - 1;
+        let j = place(sender);
         match kind {
             WRITE0 | WRITE1 => Refusal::StrayWrite.when(self.is_stray(kind, j)),
             READ => Refusal::LineFull.when(self.must_wait(j) && self.lines[j].is_full()),
@@ -93,7 +93,7 @@ impl Panel {
 
     /// A delivery that was judged.
     pub(crate) fn take(&mut self, kind: u8, sender: u8, v: u32, out: &mut Outgoing) -> Finish {
-        let j = usize::from(sender) - 1;
+        let j = place(sender);
         match kind {
             READ => self.take_read(j, out),
             PROCEED => self.r[j] = self.r[j].next(), // (22)

@@ -5,7 +5,6 @@ use second::generate_tables as generate;
 use second::network::{Delivery, Network};
 use second::panel::{Finish, Panel};
 use second::random::Random;
-use std::collections::BTreeMap;
 
 /// Events with numbers that are mostly within the panel's n.
 fn some_event(random: &mut Random) -> Event {
@@ -74,14 +73,14 @@ fn finish_is_true(before: &Panel, after: &Panel, finish: Finish) {
         }
         Finish::Read(number, value) => assert_eq!(value, after.history[usize::from(number.0)]),
     }
-    assert_eq!((after.operation.stage, after.operation.sn.0), (0, 0));
+    assert_eq!(operation(after), (0, 0));
 }
 
 // "Every accepted step keeps this": events at any panels. Refused: 2 exactly when not in form.
 #[test]
 fn events_at_any_panel() {
     let mut random = Random::new(21);
-    let mut seen = BTreeMap::new();
+    let mut met = Met::new();
     for seed in 0..20_000 {
         let mut panel = generate::panel(seed);
         let (event, before) = (some_event(&mut random), panel.clone());
@@ -91,32 +90,29 @@ fn events_at_any_panel() {
                 assert!(in_form && panel.in_form(), "seed {seed}, {event:?}");
                 messages_stand_in_order(&panel, event, &sent);
                 finish_is_true(&before, &panel, finish);
-                *seen.entry(0).or_insert(0) += 1;
+                *met.entry(0).or_default() += 1;
             }
             Err(number) => {
                 assert_eq!(number == 2, !in_form, "seed {seed}, {event:?}");
-                *seen.entry(number).or_insert(0) += 1;
+                *met.entry(number).or_default() += 1;
             }
         }
     }
-    for number in [0, 2, 4, 6, 7, 8, 11, 12, 13, 15] {
-        assert!(seen.get(&number).is_some_and(|&times| times >= 20), "{number}: {seen:?}");
-    }
-    assert_eq!(seen.len(), 10, "no other number at a lone panel: {seen:?}");
+    assert_met(&met, &[0, 2, 4, 6, 7, 8, 11, 12, 13, 15], 20);
 }
 
 // "Every accepted step keeps this": steps of any networks.
 #[test]
 fn steps_of_any_network() {
     let mut random = Random::new(22);
-    let mut seen = BTreeMap::new();
+    let mut met = Met::new();
     for seed in 0..1500 {
         let mut network = generate::network(seed);
         for _ in 0..20 {
             let (what, in_form) = (some_step(&mut random, &network), network.in_form());
             let answer = step(&mut network, what);
             let number = answer.err().unwrap_or(0);
-            *seen.entry(number).or_insert(0) += 1;
+            *met.entry(number).or_default() += 1;
             assert_eq!(number == 2, !in_form, "seed {seed}, {what:?}");
             if number == 2 {
                 break;
@@ -124,10 +120,7 @@ fn steps_of_any_network() {
             assert!(network.in_form(), "seed {seed}, {what:?}");
         }
     }
-    for number in [0, 2, 4, 5, 7, 8, 9, 10, 11, 12, 13, 14] {
-        assert!(seen.get(&number).is_some_and(|&times| times >= 20), "{number}: {seen:?}");
-    }
-    assert_eq!(seen.len(), 12, "no other number at a network: {seen:?}");
+    assert_met(&met, &[0, 2, 4, 5, 7, 8, 9, 10, 11, 12, 13, 14], 20);
 }
 
 /// A drain begins no operation. In one ordered pair a WRITE delivered either lets w[j] grow, at most to

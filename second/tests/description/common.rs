@@ -1,9 +1,11 @@
 //! Events and steps as the tests give them. Whatever is refused is checked here to change nothing, and
 //! whatever is accepted to leave the lent area alone behind its last message.
 
+use second::listing::listing;
 use second::network::Network;
 use second::panel::{Finish, Panel, Reply, WriteNumber};
 use second::refusal::Refusal;
+use std::collections::BTreeMap;
 
 /// Wire kinds as numbers of the description, so that a wrong constant in the program is noticed.
 pub const WRITE0: u8 = 0;
@@ -39,7 +41,7 @@ impl Lent {
         }
     }
 
-    pub fn give(&mut self, panel: &mut Panel, event: Event) -> Result<Reply, Refusal> {
+    fn give(&mut self, panel: &mut Panel, event: Event) -> Result<Reply, Refusal> {
         let Lent { receivers, kinds, values } = self;
         match event {
             Event::Write(v) => panel.write(v, receivers, kinds, values),
@@ -180,6 +182,17 @@ pub fn by_hand(t: u8, writer: u8, number: u8, w: &[u8], r: &[u8]) -> Panel {
     panel
 }
 
+/// A network of n panels made by hand, writer 1, all with the write and read numbers given.
+pub fn all_at(n: u8, t: u8, w: u8, r: u8) -> Network {
+    let mut network = Network::set_up(n, t, 1, 1000).unwrap();
+    for number in 1..=n {
+        let (w, r) = (vec![w; n.into()], vec![r; n.into()]);
+        network.panels[usize::from(number) - 1] = by_hand(t, 1, number, &w, &r);
+    }
+    assert!(network.in_form());
+    network
+}
+
 /// A line of waiting READs.
 pub fn set_line(panel: &mut Panel, j: u8, sn: &[u8]) {
     let line = &mut panel.lines[usize::from(j) - 1];
@@ -201,4 +214,29 @@ pub fn set_held(panel: &mut Panel, j: u8, value: u32) {
 
 pub fn set_operation(panel: &mut Panel, stage: u8, sn: u8) {
     (panel.operation.stage, panel.operation.sn.0) = (stage, sn);
+}
+
+/// The stage and its sn.
+pub fn operation(panel: &Panel) -> (u8, u8) {
+    (panel.operation.stage, panel.operation.sn.0)
+}
+
+/// A set-up, and drains behind it up to this length.
+pub fn drains(set_up: [u8; 8], length: usize) -> Vec<u8> {
+    let mut schedule = set_up.to_vec();
+    schedule.resize(length, 8);
+    schedule
+}
+
+pub fn listing_text(schedule: &[u8]) -> String {
+    String::from_utf8(listing(schedule)).expect("plain text")
+}
+
+/// How often each answer was met: 0 where something was accepted, else the number of the refusal.
+pub type Met = BTreeMap<u8, usize>;
+
+/// Each of these numbers was met at least so often, and no other at all.
+pub fn assert_met(met: &Met, numbers: &[u8], least: usize) {
+    assert_eq!(met.keys().copied().collect::<Vec<_>>(), numbers, "{met:?}");
+    assert!(met.values().all(|&times| times >= least), "{met:?}");
 }

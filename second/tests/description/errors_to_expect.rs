@@ -44,12 +44,12 @@ fn a_read_gives_value_sn() {
     accepted(&mut panel, Event::Read);
     accepted(&mut panel, Event::Deliver(PROCEED, 1, 0));
     assert_eq!(accepted(&mut panel, Event::Deliver(PROCEED, 3, 0)).0, Finish::Nothing);
-    assert_eq!((panel.operation.stage, panel.operation.sn.0), (3, 1));
+    assert_eq!(operation(&panel), (3, 1));
     assert_eq!(accepted(&mut panel, Event::Deliver(WRITE0, 1, 52)).0, Finish::Nothing);
     assert_eq!(panel.w[1].0, 2);
     let (finish, sent) = accepted(&mut panel, Event::Deliver(WRITE1, 3, 51));
     assert_eq!((finish, sent), (read(1, 51), vec![(3, WRITE0, 52)]));
-    assert_eq!((panel.operation.stage, panel.operation.sn.0), (0, 0));
+    assert_eq!(operation(&panel), (0, 0));
 }
 
 // "Clearing r at each read, so that a late PROCEED counts for the wrong one."

@@ -18,7 +18,7 @@ fn write_goes_to_those_who_know_the_last() {
     let (finish, sent) = accepted(&mut panel, Event::Write(77));
     assert_eq!((finish, sent), (Finish::Nothing, vec![(1, WRITE0, 77), (4, WRITE0, 77)]));
     assert_eq!((w(&panel), panel.history[4]), (vec![3, 4, 2, 3], 77));
-    assert_eq!((panel.operation.stage, panel.operation.sn.0), (1, 0));
+    assert_eq!(operation(&panel), (1, 0));
 }
 
 // "r[i] grows by one; READ goes to every other panel. The writer reads like any other panel."
@@ -30,7 +30,7 @@ fn read_goes_to_every_other_panel() {
         assert_eq!(finish, Finish::Nothing);
         assert_eq!(sent, [(1, READ, 0), (2, READ, 0), (4, READ, 0)]);
         assert_eq!(r(&panel), [5, 4, 6, 1]);
-        assert_eq!((panel.operation.stage, panel.operation.sn.0), (2, 0));
+        assert_eq!(operation(&panel), (2, 0));
     }
 }
 
@@ -182,7 +182,7 @@ fn writing_ends_with_n_less_t() {
     set_operation(&mut panel, 1, 0);
     assert_eq!(accepted(&mut panel, Event::Deliver(WRITE0, 2, 1004)).0, Finish::Nothing);
     assert_eq!(accepted(&mut panel, Event::Deliver(WRITE0, 5, 1004)).0, wrote(4));
-    assert_eq!((panel.operation.stage, panel.operation.sn.0), (0, 0));
+    assert_eq!(operation(&panel), (0, 0));
 }
 
 // "The first wait ends when at least n−t have r[j] = r[i]; then sn = w[i]. The second wait, which may
@@ -194,7 +194,7 @@ fn both_waits_end_in_one_event() {
     assert_eq!(accepted(&mut panel, Event::Deliver(PROCEED, 4, 0)).0, Finish::Nothing);
     assert_eq!(panel.operation.stage, 2);
     assert_eq!(accepted(&mut panel, Event::Deliver(PROCEED, 1, 0)).0, read(4, 1004));
-    assert_eq!((panel.operation.stage, panel.operation.sn.0), (0, 0));
+    assert_eq!(operation(&panel), (0, 0));
 }
 
 // The same sentences, with one panel too few at value sn.
@@ -203,7 +203,7 @@ fn second_wait_lasts() {
     let mut panel = by_hand(2, 1, 2, &[4, 4, 3, 1, 1], &[6, 7, 7, 0, 0]);
     set_operation(&mut panel, 2, 0);
     assert_eq!(accepted(&mut panel, Event::Deliver(PROCEED, 1, 0)).0, Finish::Nothing);
-    assert_eq!((panel.operation.stage, panel.operation.sn.0), (3, 4));
+    assert_eq!(operation(&panel), (3, 4));
     assert_eq!(accepted(&mut panel, Event::Deliver(WRITE1, 1, 99)).0, Finish::Nothing);
     assert_eq!((panel.operation.stage, panel.operation.sn.0, panel.w[1].0), (3, 4, 5));
     assert_eq!(accepted(&mut panel, Event::Deliver(WRITE0, 3, 1004)).0, read(4, 1004));
@@ -228,7 +228,7 @@ fn a_met_wait_ends_at_any_event() {
             set_operation(&mut panel, stage, sn);
             assert!(panel.in_form());
             assert_eq!(accepted(&mut panel, event).0, finish, "{event:?} in stage {stage}");
-            assert_eq!((panel.operation.stage, panel.operation.sn.0), (0, 0));
+            assert_eq!(operation(&panel), (0, 0));
         }
     }
 }

@@ -12,19 +12,21 @@ use second::random::Random;
 /// A panel in form with something in every table: panel 2 of 5, t=2, writer 1.
 fn rich() -> Panel {
     let mut panel = by_hand(2, 1, 2, &[6, 6, 4, 3, 6], &[2, 3, 1, 3, 0]);
-    set_held(&mut panel, 3, 71);
-    set_line(&mut panel, 4, &[4, 4, 6]);
     set_operation(&mut panel, 3, 5);
-    assert!(panel.in_form());
-    panel
+    with_something_kept(panel)
 }
 
 /// The same at the writer: panel 1 of 5.
 fn rich_writer() -> Panel {
     let mut panel = by_hand(2, 1, 1, &[6, 6, 4, 3, 5], &[3, 3, 1, 2, 0]);
+    set_operation(&mut panel, 1, 0);
+    with_something_kept(panel)
+}
+
+/// A held WRITE of panel 3, and waiting READs of panel 4.
+fn with_something_kept(mut panel: Panel) -> Panel {
     set_held(&mut panel, 3, 71);
     set_line(&mut panel, 4, &[4, 4, 6]);
-    set_operation(&mut panel, 1, 0);
     assert!(panel.in_form());
     panel
 }

@@ -4,14 +4,13 @@ use crate::clauses::{broken_in_network, broken_in_panel};
 use crate::common::*;
 use second::generate_schedules::{schedule, style, Style};
 use second::generate_tables as generate;
-use second::listing::listing;
 use second::network::{Delivery, Network};
 use second::random::Random;
 use second::schedule::{Reader, Record};
-use std::collections::{BTreeMap, BTreeSet, HashMap};
+use std::collections::{BTreeSet, HashMap};
 
 fn answers(schedule: &[u8]) -> Vec<u8> {
-    let text = String::from_utf8(listing(schedule)).unwrap();
+    let text = listing_text(schedule);
     text.lines().skip(1).map(|line| line.split(' ').nth(4).unwrap().parse().unwrap()).collect()
 }
 
@@ -45,6 +44,23 @@ fn replay(schedule: &[u8], mut show: impl FnMut(&Network)) {
     }
 }
 
+/// What is counted of networks on the way.
+#[derive(Default)]
+struct Found {
+    held: usize,
+    waiting: usize,
+    down: usize,
+}
+
+impl Found {
+    fn add(&mut self, network: &Network) {
+        let panels = &network.panels;
+        self.held += panels.iter().flat_map(|p| p.held).filter(|held| held.full).count();
+        self.waiting += panels.iter().flat_map(|p| p.lines).filter(|line| line.len > 0).count();
+        self.down += network.down.iter().filter(|&&down| down).count();
+    }
+}
+
 #[test]
 fn the_same_seed_gives_the_same() {
     for seed in 0..32 {
@@ -61,21 +77,19 @@ fn the_same_seed_gives_the_same() {
 // "Given exactly when": the numbers that a schedule can meet from fresh.
 #[test]
 fn schedules_meet_every_refusal_they_can() {
-    let mut seen: BTreeMap<u8, usize> = BTreeMap::new();
+    let mut schedules = Met::new();
     for seed in 0..800 {
         for number in answers(&schedule(seed)).into_iter().collect::<BTreeSet<u8>>() {
-            *seen.entry(number).or_default() += 1;
+            *schedules.entry(number).or_default() += 1;
         }
     }
-    let numbers: Vec<u8> = seen.keys().copied().collect();
-    assert_eq!(numbers, [0, 1, 4, 5, 7, 8, 9, 10, 15, 16, 17], "{seen:?}");
-    assert!(seen.values().all(|&schedules| schedules >= 5), "{seen:?}");
+    assert_met(&schedules, &[0, 1, 4, 5, 7, 8, 9, 10, 15, 16, 17], 5);
 }
 
 #[test]
 fn runs_are_of_all_sizes_and_rich() {
     let (mut sizes, mut stages, mut two_writes) = (BTreeSet::new(), BTreeSet::new(), 0);
-    let (mut held, mut waiting, mut down, mut accepted, mut lines) = (0, 0, 0, 0, 0);
+    let (mut found, mut accepted, mut lines) = (Found::default(), 0, 0);
     for schedule in with_style(Style::Run, 1500) {
         sizes.insert((schedule[1], schedule[2], schedule[3]));
     }
@@ -84,18 +98,15 @@ fn runs_are_of_all_sizes_and_rich() {
         lines += answers.len();
         accepted += answers.iter().filter(|&&number| number == 0).count();
         replay(&schedule, |network| {
-            let panels = &network.panels;
-            stages.extend(panels.iter().map(|panel| panel.operation.stage));
-            held += panels.iter().flat_map(|p| p.held).filter(|held| held.full).count();
-            waiting += panels.iter().flat_map(|p| p.lines).filter(|line| line.len > 0).count();
-            down += network.down.iter().filter(|&&down| down).count();
+            stages.extend(network.panels.iter().map(|panel| panel.operation.stage));
+            found.add(network);
             let channels = network.channels.iter().flatten();
             two_writes += channels.filter(|c| c.writes[0].full && c.writes[1].full).count();
         });
     }
     assert_eq!(sizes.len(), 78, "all n with all t and writers that fit");
     assert_eq!(stages.into_iter().collect::<Vec<_>>(), [0, 1, 2, 3]);
-    assert!(held > 500 && waiting > 500 && down > 500 && two_writes > 500);
+    assert!(found.held > 500 && found.waiting > 500 && found.down > 500 && two_writes > 500);
     assert!(accepted * 10 > lines * 6, "{accepted} of {lines} accepted");
 }
 
@@ -187,7 +198,7 @@ fn panels_in_form_are_rich() {
 #[test]
 fn networks_in_form_are_rich() {
     let mut random = Random::new(32);
-    let (mut messages, mut held, mut waiting, mut down) = ([0; 4], 0, 0, 0);
+    let (mut messages, mut found) = ([0; 4], Found::default());
     for _ in 0..400 {
         for network in
             [generate::network_in_form(&mut random), generate::network_by_hand(&mut random)]
@@ -196,13 +207,11 @@ fn networks_in_form_are_rich() {
             for message in network.in_flight() {
                 messages[usize::from(message.kind)] += 1;
             }
-            held += network.panels.iter().flat_map(|p| p.held).filter(|held| held.full).count();
-            waiting += network.panels.iter().flat_map(|p| p.lines).filter(|l| l.len > 0).count();
-            down += network.down.iter().filter(|&&down| down).count();
+            found.add(&network);
         }
     }
     assert!(messages.iter().all(|&times| times > 500), "{messages:?}");
-    assert!(held > 500 && waiting > 500 && down > 100);
+    assert!(found.held > 500 && found.waiting > 500 && found.down > 100);
 }
 
 // Panels and networks by seed are in form about as often as not; the broken ones are in `form`.

@@ -1,5 +1,6 @@
 //! The description, "The bench listing", each listing worked out by hand.
 
+use crate::common::{drains, listing_text};
 use second::listing::listing;
 
 const FIRST: &str = "step kind a b answer result\n";
@@ -7,8 +8,7 @@ const SET_UP: [u8; 8] = [0, 3, 1, 1, 0, 0, 2, 0xBC];
 
 fn shows(schedule: &[u8], lines: &[&str]) {
     let expected: String = lines.iter().map(|line| format!("{line}\n")).collect();
-    let found = String::from_utf8(listing(schedule)).expect("plain text");
-    assert_eq!(found, format!("{FIRST}{expected}"), "of {schedule:?}");
+    assert_eq!(listing_text(schedule), format!("{FIRST}{expected}"), "of {schedule:?}");
 }
 
 /// After a set-up of three panels, t=1, writer 1, initial value 700, which is line 1.
@@ -38,8 +38,7 @@ fn the_sample() {
 13 6 2 3 0 -
 14 8 - - 0 d8
 ";
-    let found = listing(&[&SET_UP[..], &records].concat());
-    assert_eq!(String::from_utf8(found).unwrap(), expected);
+    assert_eq!(listing_text(&[&SET_UP[..], &records].concat()), expected);
 }
 
 // "an empty input gives the first line alone"
@@ -51,11 +50,10 @@ fn empty_input() {
 // "at most 65,536 bytes; a longer one gives the single line `too long`"
 #[test]
 fn too_long() {
-    let drains = |length: usize| [&SET_UP[..], &vec![8; length - 8]].concat();
-    assert_eq!(listing(&drains(65_537)), b"too long\n");
+    assert_eq!(listing(&drains(SET_UP, 65_537)), b"too long\n");
     assert_eq!(listing(&vec![255; 65_537]), b"too long\n");
     assert_eq!(listing(&vec![0; 200_000]), b"too long\n");
-    let longest = String::from_utf8(listing(&drains(65_536))).unwrap();
+    let longest = listing_text(&drains(SET_UP, 65_536));
     assert_eq!(longest.lines().count(), 1 + 1 + 65_528);
     assert_eq!(longest.lines().last(), Some("65529 8 - - 0 d0"));
 }
@@ -216,7 +214,7 @@ fn used_up() {
     schedule.extend([1, 0, 0, 0, 6].repeat(201));
     schedule.extend([2, 1].repeat(101));
     schedule.push(8);
-    let found = String::from_utf8(listing(&schedule)).unwrap();
+    let found = listing_text(&schedule);
     let lines: Vec<&str> = found.lines().skip(1).collect();
     assert_eq!(lines.len(), 1 + 201 + 101 + 1);
     assert_eq!(lines[200], "201 1 - - 0 w200");
@@ -231,7 +229,7 @@ fn used_up() {
 fn every_line_has_six_fields() {
     for seed in 0..200 {
         let schedule = second::generate_schedules::schedule(seed);
-        let text = String::from_utf8(listing(&schedule)).unwrap();
+        let text = listing_text(&schedule);
         assert!(text.ends_with('\n') && !text.contains(['\r', '\t']));
         if text == "too long\n" {
             continue;

@@ -13,6 +13,8 @@ mod listing;
 mod network_refusals;
 mod panel_refusals;
 mod program;
+#[path = "../running/mod.rs"]
+mod running;
 mod runs;
 mod schedule;
 mod send_refusals;

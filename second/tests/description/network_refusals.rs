@@ -4,15 +4,9 @@
 use crate::common::*;
 use second::network::{Network, Slot};
 
-/// A network of n panels made by hand, all with the write and read numbers given; t=1.
-fn all_at(n: u8, w: u8, r: u8) -> Network {
-    let mut network = Network::set_up(n, 1, 1, 1000).unwrap();
-    for number in 1..=n {
-        let (w, r) = (vec![w; n.into()], vec![r; n.into()]);
-        network.panels[usize::from(number) - 1] = by_hand(1, 1, number, &w, &r);
-    }
-    assert!(network.in_form());
-    network
+/// Three panels, t=1, writer 1, all with the write and read numbers given.
+fn three_at(w: u8, r: u8) -> Network {
+    all_at(3, 1, w, r)
 }
 
 fn all_steps() -> Vec<Step> {
@@ -80,7 +74,7 @@ fn not_in_form_comes_first() {
 // 4: "panel number not in 1..n; sender equals receiver", before 5 and all others.
 #[test]
 fn wrong_numbers() {
-    let mut network = all_at(3, 200, 100);
+    let mut network = three_at(200, 100);
     network.down[1] = true;
     for panel in [0, 4, 7, 8, 255] {
         assert_eq!(step_refusal(&network, Step::Read(panel)), Some(4));
@@ -102,7 +96,7 @@ fn wrong_numbers() {
 // 5: "the panel that should act, receive or lose power is down", before 7, 8, 9 and 10.
 #[test]
 fn down_panel() {
-    let mut network = all_at(3, 200, 100);
+    let mut network = three_at(200, 100);
     network.down[0] = true;
     for stage in [0, 1, 2, 3] {
         set_operation(&mut network.panels[0], stage, 0);
@@ -137,7 +131,7 @@ fn unfinished() {
     assert_eq!(step_refusal(&network, Step::Read(2)), Some(7));
     assert_eq!(step_refusal(&network, Step::Read(3)), None);
 
-    let mut network = all_at(3, 200, 100);
+    let mut network = three_at(200, 100);
     set_operation(&mut network.panels[0], 1, 0);
     assert_eq!(step_refusal(&network, Step::Write(2)), Some(7));
     assert_eq!(step_refusal(&network, Step::Read(1)), Some(7));
@@ -146,11 +140,11 @@ fn unfinished() {
 // 8: "write 201, or read 101 of that panel", before 14: the READ channels are full too.
 #[test]
 fn used_up() {
-    let mut network = all_at(3, 200, 100);
+    let mut network = three_at(200, 100);
     network.channels[1][0].reads = 100;
     assert_eq!(step_refusal(&network, Step::Write(2)), Some(8));
     assert_eq!(step_refusal(&network, Step::Read(2)), Some(8));
-    let network = all_at(3, 199, 99);
+    let network = three_at(199, 99);
     assert_eq!(step_refusal(&network, Step::Write(2)), None);
     assert_eq!(step_refusal(&network, Step::Read(2)), None);
 }
@@ -159,7 +153,7 @@ fn used_up() {
 // unknown kind is never in flight.
 #[test]
 fn not_in_flight() {
-    let mut network = all_at(3, 200, 0);
+    let mut network = three_at(200, 0);
     network.panels[1].w[2].0 = 199;
     set_line(&mut network.panels[1], 3, &[200; 100]);
     for kind in [WRITE0, WRITE1, READ, PROCEED, 4, 255] {
@@ -195,7 +189,7 @@ fn too_many_down() {
 // 11 at a network: "at the writer above w[i]; or it must be held and one is held".
 #[test]
 fn stray_writes() {
-    let mut network = all_at(3, 4, 0);
+    let mut network = three_at(4, 0);
     for receiver in [0, 2] {
         network.channels[1][receiver].writes = [Slot { full: true, value: 5 }; 2];
     }
@@ -213,7 +207,7 @@ fn stray_writes() {
 // panel, meet them": 12 and 13 by hand in a network.
 #[test]
 fn proceeds_and_lines_by_hand() {
-    let mut network = all_at(3, 4, 5);
+    let mut network = three_at(4, 5);
     network.channels[0][1].proceeds = 1;
     assert_eq!(step_refusal(&network, Step::Deliver(PROCEED, 1, 2)), Some(12));
     network.panels[1].r[0].0 = 4;

@@ -1,21 +1,13 @@
 //! The program itself, from standard input to standard output.
 
+use crate::common::drains;
+use crate::running;
 use second::generate_schedules;
 use second::listing::listing;
-use std::io::Write;
-use std::process::{Command, Output, Stdio};
+use std::process::Output;
 
 fn run(arguments: &[&str], input: &[u8]) -> Output {
-    let mut child = Command::new(env!("CARGO_BIN_EXE_second"))
-        .args(arguments)
-        .stdin(Stdio::piped())
-        .stdout(Stdio::piped())
-        .stderr(Stdio::piped())
-        .spawn()
-        .unwrap();
-    // A program that wants no input may be gone before it is written.
-    let _written = child.stdin.take().unwrap().write_all(input);
-    child.wait_with_output().unwrap()
+    running::run(env!("CARGO_BIN_EXE_second"), arguments, input)
 }
 
 // "takes a schedule on standard input"
@@ -33,13 +25,10 @@ fn listing_on_standard_output() {
 // "at most 65,536 bytes; a longer one gives the single line `too long`"
 #[test]
 fn long_input() {
-    let mut schedule = vec![8; 65_536];
-    schedule[..8].copy_from_slice(&[0, 7, 3, 1, 0, 0, 0, 0]);
-    assert_eq!(run(&[], &schedule).stdout, listing(&schedule));
-    schedule.push(8);
-    assert_eq!(run(&[], &schedule).stdout, b"too long\n");
-    schedule.extend([8; 100_000]);
-    assert_eq!(run(&[], &schedule).stdout, b"too long\n");
+    let schedule = |length| drains([0, 7, 3, 1, 0, 0, 0, 0], length);
+    assert_eq!(run(&[], &schedule(65_536)).stdout, listing(&schedule(65_536)));
+    assert_eq!(run(&[], &schedule(65_537)).stdout, b"too long\n");
+    assert_eq!(run(&[], &schedule(165_537)).stdout, b"too long\n");
 }
 
 #[test]

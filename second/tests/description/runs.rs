@@ -151,6 +151,25 @@ impl Run {
         self.look();
     }
 
+    /// Goes on until `done`, and then drains. There are far more steps than deliveries and starts.
+    fn go_until(&mut self, done: fn(&Run) -> bool, manner: Manner) {
+        for _ in 0..60_000 {
+            if done(self) {
+                break;
+            }
+            self.random_step(manner);
+            self.quiet_means_finished();
+        }
+        self.all_are_accepted();
+        self.take(Step::Drain);
+        self.look();
+    }
+
+    /// Pairs to be slow: about one in four.
+    fn some_pairs(&mut self) -> u64 {
+        self.random.bits() & self.random.bits()
+    }
+
     /// As a drain would, one at a time, so that what finishes is counted.
     fn deliver_the_rest(&mut self) {
         while let Some(&(kind, sender, receiver)) = self.deliverable().first() {
@@ -179,7 +198,7 @@ fn runs_of_all_sizes() {
     for (size, (n, t, writer)) in (0..).zip(sizes()) {
         for seed in 0..3 {
             let mut run = Run::fresh(n, t, writer, 1000 * size + seed);
-            let slow = if seed == 0 { 0 } else { run.random.bits() & run.random.bits() };
+            let slow = if seed == 0 { 0 } else { run.some_pairs() };
             let starts = [12, 30, 4][seed as usize];
             run.go(400, Manner { slow, loses_power: seed < 2, starts });
             held += run.held;
@@ -197,7 +216,7 @@ fn runs_of_all_sizes() {
 fn without_losses_the_bound_is_met() {
     for (size, (n, t, writer)) in (0..).zip(sizes()) {
         let mut run = Run::fresh(n, t, writer, 77 + size);
-        let slow = run.random.bits() & run.random.bits();
+        let slow = run.some_pairs();
         run.go(300, Manner { slow, loses_power: false, starts: 8 });
         assert_eq!(run.deliveries, run.most_deliveries(), "n={n} t={t} writer={writer}");
         assert_eq!(run.finished, run.writes + run.reads, "n={n} t={t} writer={writer}");
@@ -208,18 +227,9 @@ fn without_losses_the_bound_is_met() {
 #[test]
 fn everything_used_up() {
     let mut run = Run::fresh(7, 3, 2, 99);
-    let slow = run.random.bits() & run.random.bits();
-    // Far more steps than the deliveries and starts there are.
-    for _ in 0..60_000 {
-        if (run.writes, run.reads) == (200, 700) {
-            break;
-        }
-        run.random_step(Manner { slow, loses_power: false, starts: 6 });
-        run.quiet_means_finished();
-    }
-    run.all_are_accepted();
-    run.take(Step::Drain);
-    run.look();
+    let slow = run.some_pairs();
+    let used_up = |run: &Run| (run.writes, run.reads) == (200, 700);
+    run.go_until(used_up, Manner { slow, loses_power: false, starts: 6 });
     assert_eq!((run.writes, run.reads), (200, 700));
     assert_eq!(run.deliveries, 200 * 7 * 6 + 2 * 700 * 6);
     assert_eq!(step(&mut run.network, Step::Write(1)), Err(8));
@@ -245,16 +255,7 @@ fn used_up_with_panels_down() {
             }
             run.take(Step::PowerLoss(panel));
         }
-        for _ in 0..60_000 {
-            if run.writes == 200 {
-                break;
-            }
-            run.random_step(manner);
-            run.quiet_means_finished();
-        }
-        run.all_are_accepted();
-        run.take(Step::Drain);
-        run.look();
+        run.go_until(|run| run.writes == 200, manner);
         assert_eq!((run.writes, run.losses), (200, 3));
     }
 }

@@ -8,10 +8,7 @@ const TAKEN: Slot = Slot { full: true, value: 9 };
 
 /// Five panels, t=2, writer 1, all knowing four writes; panel 2 has read twice.
 fn five() -> Network {
-    let mut network = Network::set_up(5, 2, 1, 1000).unwrap();
-    for number in 1..=5 {
-        network.panels[usize::from(number) - 1] = by_hand(2, 1, number, &[4; 5], &[0; 5]);
-    }
+    let mut network = all_at(5, 2, 4, 0);
     network.panels[1].r[1].0 = 2;
     network
 }

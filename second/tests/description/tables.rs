@@ -15,29 +15,21 @@ const LINES: usize = 57;
 const STAGE: usize = 764;
 const VALUES: usize = 766;
 
-fn panel_of(bytes: &[u8]) -> Panel {
-    panel_from_bytes(bytes.try_into().unwrap())
-}
-
-fn network_of(bytes: &[u8]) -> Network {
-    network_from_bytes(bytes.try_into().unwrap())
-}
-
 #[test]
 fn lengths() {
     assert_eq!((PANEL_BYTES, NETWORK_BYTES), (1566, 7 * 1566 + 7 + 49 * 12));
-    assert_eq!(panel_to_bytes(&Panel::ZERO), vec![0; 1566]);
-    assert_eq!(network_to_bytes(&Network::ZERO), vec![0; 11_557]);
+    assert_eq!(panel_to_bytes(&Panel::ZERO), [0; 1566]);
+    assert_eq!(network_to_bytes(&Network::ZERO), [0; 11_557]);
 }
 
 #[test]
 fn places_of_a_panel() {
     let mut panel = Panel::ZERO;
-    let mut bytes = vec![0; PANEL_BYTES];
+    let mut bytes = [0; PANEL_BYTES];
     let mut same = |panel: &Panel, place: usize, put: &[u8]| {
         bytes[place..place + put.len()].copy_from_slice(put);
         assert!(panel_to_bytes(panel) == bytes, "at place {place}");
-        assert!(panel_of(&bytes) == *panel, "at place {place}");
+        assert!(panel_from_bytes(&bytes) == *panel, "at place {place}");
     };
     (panel.n, panel.t, panel.writer, panel.number) = (11, 12, 13, 14);
     same(&panel, 0, &[11, 12, 13, 14]);
@@ -66,18 +58,18 @@ fn last_places_of_a_panel() {
     (panel.operation.stage, panel.operation.sn.0) = (3, 200);
     panel.history[1] = 0x0506_0708;
     panel.history[200] = 0x090A_0B0C;
-    let mut bytes = vec![0; PANEL_BYTES];
+    let mut bytes = [0; PANEL_BYTES];
     bytes[STAGE..STAGE + 2].copy_from_slice(&[3, 200]);
     bytes[VALUES..VALUES + 4].copy_from_slice(&[5, 6, 7, 8]);
     bytes[PANEL_BYTES - 4..].copy_from_slice(&[9, 10, 11, 12]);
     assert_eq!(panel_to_bytes(&panel), bytes);
-    assert_eq!(panel_of(&bytes), panel);
+    assert_eq!(panel_from_bytes(&bytes), panel);
 }
 
 #[test]
 fn places_of_a_network() {
     let mut network = Network::ZERO;
-    let mut bytes = vec![0; NETWORK_BYTES];
+    let mut bytes = [0; NETWORK_BYTES];
     for k in 0..7 {
         network.panels[k].n = 1 + k as u8;
         bytes[k * PANEL_BYTES] = 1 + k as u8;
@@ -95,19 +87,19 @@ fn places_of_a_network() {
         bytes[place..place + 12].copy_from_slice(&put);
     }
     assert_eq!(network_to_bytes(&network), bytes);
-    assert_eq!(network_of(&bytes), network);
+    assert_eq!(network_from_bytes(&bytes), network);
 }
 
 #[test]
 fn a_flag_other_than_zero_is_true() {
     for flag in 1..=255 {
-        let mut bytes = vec![0; PANEL_BYTES];
+        let mut bytes = [0; PANEL_BYTES];
         bytes[HOLDS] = flag;
-        assert!(panel_of(&bytes).held[0].full);
-        let mut bytes = vec![0; NETWORK_BYTES];
+        assert!(panel_from_bytes(&bytes).held[0].full);
+        let mut bytes = [0; NETWORK_BYTES];
         bytes[7 * PANEL_BYTES] = flag;
         bytes[7 * PANEL_BYTES + 7 + 5] = flag;
-        let network = network_of(&bytes);
+        let network = network_from_bytes(&bytes);
         assert!(network.down[0] && network.channels[0][0].writes[1].full);
     }
 }
@@ -116,11 +108,11 @@ fn a_flag_other_than_zero_is_true() {
 fn there_and_back() {
     for seed in 0..2000 {
         let panel = generate::panel(seed);
-        assert_eq!(panel_of(&panel_to_bytes(&panel)), panel);
+        assert_eq!(panel_from_bytes(&panel_to_bytes(&panel)), panel);
     }
     for seed in 0..500 {
         let network = generate::network(seed);
-        assert_eq!(network_of(&network_to_bytes(&network)), network);
+        assert_eq!(network_from_bytes(&network_to_bytes(&network)), network);
     }
 }
 
@@ -128,9 +120,9 @@ fn there_and_back() {
 fn any_bytes() {
     let mut random = Random::new(5);
     for _ in 0..500 {
-        let mut bytes = vec![0; PANEL_BYTES];
+        let mut bytes = [0; PANEL_BYTES];
         random.fill(&mut bytes);
-        let again = panel_to_bytes(&panel_of(&bytes));
+        let again = panel_to_bytes(&panel_from_bytes(&bytes));
         for (place, (&was, &is)) in bytes.iter().zip(&again).enumerate() {
             let is_flag = (HOLDS..LINES).contains(&place) && (place - HOLDS).is_multiple_of(5);
             assert_eq!(is, if is_flag { u8::from(was != 0) } else { was }, "place {place}");

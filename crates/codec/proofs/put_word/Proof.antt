@@ -1,7 +1,8 @@
 -- `codec::put_word` meets its contract. Assumes nothing.
 use borrow.Author.Needs.{needs}
 use mathlib.Core.Path.{sym}
-use Rattle.codec.proofs.Words.{sets-past, bytes-of-word}
+use Rattle.basics.proofs.Lists.{sets-past}
+use Rattle.codec.proofs.Words.{bytes-of-word}
 use Rattle.codec.proofs.put_word.Statement.{statement}
 use Rattle.codec.proofs.put_word.Tie as tie
 use Rattle.codec.specs.Numbers.{bytesOf}

@@ -9,7 +9,7 @@ use Rattle.basics.proofs.Below.{count-next}
 use Rattle.basics.specs.Below.{countBelow}
 use Rattle.house.proofs.downs.Statement.{statement}
 use Rattle.house.proofs.downs.Tie as tie
-use Rattle.house.specs.NetForm.{downs}
+use Rattle.house.specs.NetForm.{downsIn}
 
 abbrev Inv-loop : tie.InvT-loop
 Inv-loop down m₀ i₀ m i = (i ≤ 7) × (m ≤ i) × (m ≡ countBelow i (λ (k : ℕ). getD down k false))
@@ -40,7 +40,7 @@ loop-again : tie.Need-loop-again Inv-loop μ-loop
 loop-again c = let h = c .before .before .loop .inv in (omega arith, omega arith, simp (count-next, c .one-if .ensures .0, h .2))
 
 returns : tie.Need-returns Inv-loop μ-loop
-unfolding downs
+unfolding downsIn
 returns c = let e : c .before .loop .i ≡ 7 = omega arith in (simp (c .before .loop .inv .2, e), omega arith)
 
 pub downs-spec : {M : Type 1} → statement M

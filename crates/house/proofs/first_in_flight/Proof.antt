@@ -6,25 +6,25 @@ use native.Mathlib.Omega.{arith}
 use Rattle.house.proofs.Turns.{first-none, first-next, pair-none, sender-none, all-none, spot-miss, hit-is}
 use Rattle.house.proofs.first_in_flight.Statement.{statement}
 use Rattle.house.proofs.first_in_flight.Tie as tie
-use Rattle.house.specs.Search.{nowhere, firstBelow, spotAt, ofPair, ofSender}
+use Rattle.house.specs.Search.{nowhere, flying, firstBelow, spotAt, ofPair, ofSender}
 
 abbrev Inv-loop2 : tie.InvT-loop2
-Inv-loop2 s at₀ from row to c down kind₀ at kind = (kind ≤ 4) × (at ≡ nowhere) × (firstBelow kind (spotAt s from to) ≡ nowhere)
+Inv-loop2 rows down at₀ from row to c off kind₀ at kind = (kind ≤ 4) × (at ≡ nowhere) × (firstBelow kind (spotAt (flying rows down) from to) ≡ nowhere)
 
 abbrev μ-loop2 : tie.MeasureT-loop2
-μ-loop2 s at₀ from row to c down kind₀ at kind = 4 - kind
+μ-loop2 rows down at₀ from row to c off kind₀ at kind = 4 - kind
 
 abbrev Inv-loop : tie.InvT-loop
-Inv-loop s at₀ from row to₀ at to = (to ≤ 7) × (at ≡ nowhere) × (firstBelow to (ofPair s from) ≡ nowhere)
+Inv-loop rows down at₀ from row to₀ at to = (to ≤ 7) × (at ≡ nowhere) × (firstBelow to (ofPair (flying rows down) from) ≡ nowhere)
 
 abbrev μ-loop : tie.MeasureT-loop
-μ-loop s at₀ from row to₀ at to = 7 - to
+μ-loop rows down at₀ from row to₀ at to = 7 - to
 
 abbrev Inv-search : tie.InvT-search
-Inv-search s at₀ from₀ at from = (from ≤ 7) × (at ≡ nowhere) × (firstBelow from (ofSender s) ≡ nowhere)
+Inv-search rows down at₀ from₀ at from = (from ≤ 7) × (at ≡ nowhere) × (firstBelow from (ofSender (flying rows down)) ≡ nowhere)
 
 abbrev μ-search : tie.MeasureT-search
-μ-search s at₀ from₀ at from = 7 - from
+μ-search rows down at₀ from₀ at from = 7 - from
 
 search-holds : tie.Need-search-holds Inv-loop2 μ-loop2 Inv-loop μ-loop Inv-search μ-search
 search-holds c = (search needs, refl, first-none _)
@@ -32,9 +32,9 @@ search-holds c = (search needs, refl, first-none _)
 mul-row : tie.Need-mul-row Inv-loop2 μ-loop2 Inv-loop μ-loop Inv-search μ-search
 mul-row c = search needs
 
-element-copy-out-row :
-    tie.Need-element-copy-out-row Inv-loop2 μ-loop2 Inv-loop μ-loop Inv-search μ-search
-element-copy-out-row c = search needs
+array-copy-out-row :
+    tie.Need-array-copy-out-row Inv-loop2 μ-loop2 Inv-loop μ-loop Inv-search μ-search
+array-copy-out-row c = search needs
 
 loop-holds : tie.Need-loop-holds Inv-loop2 μ-loop2 Inv-loop μ-loop Inv-search μ-search
 loop-holds c = (search needs, c .before .before .search .inv .1, first-none _)
@@ -46,12 +46,11 @@ element-copy-out-c :
     tie.Need-element-copy-out-c Inv-loop2 μ-loop2 Inv-loop μ-loop Inv-search μ-search
 element-copy-out-c c = search needs
 
-element-copy-out-down :
-    tie.Need-element-copy-out-down Inv-loop2 μ-loop2 Inv-loop μ-loop Inv-search μ-search
-element-copy-out-down c = search needs
+array-read-off : tie.Need-array-read-off Inv-loop2 μ-loop2 Inv-loop μ-loop Inv-search μ-search
+array-read-off c = search needs
 
 loop2-holds : tie.Need-loop2-holds Inv-loop2 μ-loop2 Inv-loop μ-loop Inv-search μ-search
-loop2-holds c = (search needs, c .before .before .before .loop .inv .1, first-none _)
+loop2-holds c = (search needs, c .before .before .loop .inv .1, first-none _)
 
 has-requires : tie.Need-has-requires Inv-loop2 μ-loop2 Inv-loop μ-loop Inv-search μ-search
 has-requires c κs = search needs
@@ -59,17 +58,17 @@ has-requires c κs = search needs
 hit-requires : tie.Need-hit-requires Inv-loop2 μ-loop2 Inv-loop μ-loop Inv-search μ-search
 hit-requires c κs = search needs
 
-add-t24 : tie.Need-add-t24 Inv-loop2 μ-loop2 Inv-loop μ-loop Inv-search μ-search
-add-t24 c = search needs
-
-cast-t25 : tie.Need-cast-t25 Inv-loop2 μ-loop2 Inv-loop μ-loop Inv-search μ-search
-cast-t25 c = search needs
-
 add-t26 : tie.Need-add-t26 Inv-loop2 μ-loop2 Inv-loop μ-loop Inv-search μ-search
 add-t26 c = search needs
 
 cast-t27 : tie.Need-cast-t27 Inv-loop2 μ-loop2 Inv-loop μ-loop Inv-search μ-search
 cast-t27 c = search needs
+
+add-t28 : tie.Need-add-t28 Inv-loop2 μ-loop2 Inv-loop μ-loop Inv-search μ-search
+add-t28 c = search needs
+
+cast-t29 : tie.Need-cast-t29 Inv-loop2 μ-loop2 Inv-loop μ-loop Inv-search μ-search
+cast-t29 c = search needs
 
 add-kind : tie.Need-add-kind Inv-loop2 μ-loop2 Inv-loop μ-loop Inv-search μ-search
 add-kind c = search needs
@@ -78,12 +77,7 @@ loop2-less : tie.Need-loop2-less Inv-loop2 μ-loop2 Inv-loop μ-loop Inv-search 
 loop2-less c = search needs
 
 loop2-again : tie.Need-loop2-again Inv-loop2 μ-loop2 Inv-loop μ-loop Inv-search μ-search
-loop2-again c =
-    let kinds = c .before .before .before .before in (
-      search needs,
-      kinds .loop2 .inv .1,
-      first-next _ _ (kinds .loop2 .inv .2) (spot-miss _ _ _ _ (c .before .before .has .ensures) (c .before .hit .ensures) (c .if1 .left)),
-    )
+loop2-again c = (search needs, c .before .before .before .before .loop2 .inv .1, first-next _ _ (c .before .before .before .before .loop2 .inv .2) (spot-miss _ _ _ _ (c .before .before .has .ensures) (c .before .hit .ensures) (c .if1 .left)))
 
 add-to : tie.Need-add-to Inv-loop2 μ-loop2 Inv-loop μ-loop Inv-search μ-search
 add-to c = search needs
@@ -93,7 +87,7 @@ loop-less c = search needs
 
 loop-again : tie.Need-loop-again Inv-loop2 μ-loop2 Inv-loop μ-loop Inv-search μ-search
 loop-again c = let e : c .before .loop2 .kind ≡ 4 = omega arith in
-    (search needs, c .before .loop2 .inv .1, first-next _ _ (c .before .before .before .before .before .loop .inv .2) (pair-none _ _ _ e (c .before .loop2 .inv .2)))
+    (search needs, c .before .loop2 .inv .1, first-next _ _ (c .before .before .before .before .loop .inv .2) (pair-none _ _ _ e (c .before .loop2 .inv .2)))
 
 add-from : tie.Need-add-from Inv-loop2 μ-loop2 Inv-loop μ-loop Inv-search μ-search
 add-from c = search needs
@@ -110,14 +104,9 @@ returns c = let e : c .before .search .from ≡ 7 = omega arith in
     c .before .search .inv .1 ∙ sym (all-none _ e (c .before .search .inv .2))
 
 returns-2 : tie.Need-returns-2 Inv-loop2 μ-loop2 Inv-loop μ-loop Inv-search μ-search
-returns-2 c =
-    let kinds = c .before .before .before .before in
-    let receivers = kinds .before .before .before .before in
-    let senders = receivers .before .before .before in
-    sym
-    (hit-is (senders .before .args .t1) (senders .search .from) (receivers .loop .to) (kinds .loop2 .kind) (c .before .before .has .ensures)
-    (c .before .hit .ensures) (receivers .before .before .search-test .taken) (kinds .before .before .before .loop-test .taken)
-    (c .before .before .before .loop2-test .taken) (senders .search .inv .2) (receivers .loop .inv .2) (kinds .loop2 .inv .2) (c .if1 .taken))
+returns-2 c = sym
+    (hit-is (flying (c .before .before .before .before .before .before .before .before .before .before .before .args .t1) (c .before .before .before .before .before .before .before .before .before .before .before .args .t2)) (c .before .before .before .before .before .before .before .before .before .before .search .from) (c .before .before .before .before .before .before .before .loop .to) (c .before .before .before .before .loop2 .kind) (c .before .before .has .ensures)
+    (c .before .hit .ensures) (c .before .before .before .before .before .before .before .before .before .search-test .taken) (c .before .before .before .before .before .before .loop-test .taken) (c .before .before .before .loop2-test .taken) (c .before .before .before .before .before .before .before .before .before .before .search .inv .2) (c .before .before .before .before .before .before .before .loop .inv .2) (c .before .before .before .before .loop2 .inv .2) (c .if1 .taken))
 
 pub first-in-flight-spec : {M : Type 1} → statement M
 first-in-flight-spec =
@@ -131,18 +120,18 @@ first-in-flight-spec =
     μ-search
     search-holds
     mul-row
-    element-copy-out-row
+    array-copy-out-row
     loop-holds
     mul-c
     element-copy-out-c
-    element-copy-out-down
+    array-read-off
     loop2-holds
     has-requires
     hit-requires
-    add-t24
-    cast-t25
     add-t26
     cast-t27
+    add-t28
+    cast-t29
     add-kind
     loop2-less
     loop2-again

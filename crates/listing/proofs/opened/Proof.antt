@@ -1,9 +1,10 @@
 -- `listing::opened` meets its contract. Assumes nothing.
 use borrow.Author.Needs.{needs}
-use mathlib.Core.Path.{_∙_}
+use mathlib.Core.Path.{ap, _∙_}
 use Rattle.listing.proofs.Turns.{opened-empty, opened-some}
 use Rattle.listing.proofs.opened.Statement.{statement}
 use Rattle.listing.proofs.opened.Tie as tie
+use Rattle.listing.specs.Turning.{benchAt}
 
 read-record-requires : tie.Need-read-record-requires
 read-record-requires c κs = search needs
@@ -11,19 +12,17 @@ read-record-requires c κs = search needs
 set-up-requires : tie.Need-set-up-requires
 set-up-requires c κs = search needs
 
-silent-requires : tie.Need-silent-requires
-silent-requires c κs = search needs
+no-more-requires : tie.Need-no-more-requires
+no-more-requires c κs = search needs
 
 returns : tie.Need-returns
-returns c = c .silent .ensures ∙ opened-empty _ (c .before .before .before .before .before .read-record .ensures)
-    (c .before .before .before .set-up .ensures) (c .before .before .if1 .taken)
+returns c = ap (benchAt (c .before .before .before .set-up .result .network)) (c .no-more .ensures) ∙ opened-empty _ (c .before .before .before .before .before .read-record .ensures) (c .before .before .before .set-up .ensures) (c .before .if1 .taken)
 
 first-record-requires : tie.Need-first-record-requires
 first-record-requires c κs = search needs
 
 returns-2 : tie.Need-returns-2
-returns-2 c = c .first-record .ensures ∙ opened-some _ (c .before .before .before .before .read-record .ensures) (c .before .before .set-up .ensures)
-    (c .before .if1 .left)
+returns-2 c = c .first-record .ensures ∙ opened-some _ (c .before .before .before .before .before .read-record .ensures) (c .before .before .before .set-up .ensures) (c .before .if1 .left)
 
 pub opened-spec : {M : Type 1} → statement M
 opened-spec =
@@ -31,7 +30,7 @@ opened-spec =
     (tie.spec
     read-record-requires
     set-up-requires
-    silent-requires
+    no-more-requires
     returns
     first-record-requires
     returns-2)

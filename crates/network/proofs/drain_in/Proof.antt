@@ -6,6 +6,7 @@ use native.Mathlib.Omega.{arith}
 use Rattle.steps.proofs.Networks.{good-test}
 use Rattle.steps.specs.Numbers.{loadOf}
 use Rattle.network.proofs.Along.{Along, along-start, along-done, along-refused, along-falls, along-next}
+use Rattle.network.proofs.Calls.{a-delivery}
 use Rattle.network.proofs.drain_in.Statement.{statement}
 use Rattle.network.proofs.drain_in.Tie as tie
 
@@ -28,11 +29,13 @@ drained-to-requires : tie.Need-drained-to-requires Inv-loop μ-loop
 drained-to-requires c κs = search needs
 
 returns : tie.Need-returns Inv-loop μ-loop
-returns c = c .drained-to .ensures ∙ along-done (c .before .before .before .before .loop .inv) (c .before .before .before .first-in-flight .ensures)
-    (not-true _ (c .before .if1 .taken))
+returns c = c .drained-to .ensures ∙ along-done (c .before .before .before .before .loop .inv) (c .before .before .before .first-in-flight .ensures) (not-true _ (c .before .if1 .taken))
 
-deliver-in-requires : tie.Need-deliver-in-requires Inv-loop μ-loop
-deliver-in-requires c κs = good-test _ (c .before .before .before .loop .inv .good)
+delivery-requires : tie.Need-delivery-requires Inv-loop μ-loop
+delivery-requires c κs = search needs
+
+step-in-requires : tie.Need-step-in-requires Inv-loop μ-loop
+step-in-requires c κs = good-test _ (c .before .before .before .before .loop .inv .good)
 
 code-of-requires : tie.Need-code-of-requires Inv-loop μ-loop
 code-of-requires c κs = search needs
@@ -41,22 +44,16 @@ drained-to-requires-2 : tie.Need-drained-to-requires-2 Inv-loop μ-loop
 drained-to-requires-2 c κs = search needs
 
 returns-2 : tie.Need-returns-2 Inv-loop μ-loop
-returns-2 c = c .drained-to2 .ensures ∙ along-refused (c .before .before .before .before .before .before .before .loop .inv)
-    (c .before .before .before .before .before .before .first-in-flight .ensures) (not-false _ (c .before .before .before .before .if1 .left))
-    (c .before .before .before .deliver-in .ensures) (c .before .before .code-of .ensures) (c .before .if2 .taken)
+returns-2 c = c .drained-to2 .ensures ∙ along-refused (c .before .before .before .before .before .before .before .before .loop .inv) (c .before .before .before .before .before .before .before .first-in-flight .ensures) (not-false _ (c .before .before .before .before .before .if1 .left)) (a-delivery _ (c .before .before .before .step-in .ensures) (c .before .before .before .before .delivery .ensures)) (c .before .before .code-of .ensures) (c .before .if2 .taken)
 
 add-count : tie.Need-add-count Inv-loop μ-loop
-add-count c = record { fits = omega (arith, c .before .before .before .before .before .before .before .loop .inv .few) }
+add-count c = record { fits = omega (arith, c .before .before .before .before .before .before .before .before .loop .inv .few) }
 
 loop-less : tie.Need-loop-less Inv-loop μ-loop
-loop-less c = along-falls (c .before .before .before .before .before .before .before .loop .inv)
-    (c .before .before .before .before .before .before .first-in-flight .ensures) (not-false _ (c .before .before .before .before .if1 .left))
-    (c .before .before .before .deliver-in .ensures) (c .before .before .code-of .ensures) (c .before .if2 .left)
+loop-less c = along-falls (c .before .before .before .before .before .before .before .before .loop .inv) (c .before .before .before .before .before .before .before .first-in-flight .ensures) (not-false _ (c .before .before .before .before .before .if1 .left)) (a-delivery _ (c .before .before .before .step-in .ensures) (c .before .before .before .before .delivery .ensures)) (c .before .before .code-of .ensures) (c .before .if2 .left)
 
 loop-again : tie.Need-loop-again Inv-loop μ-loop
-loop-again c = along-next (c .before .before .before .before .before .before .before .loop .inv)
-    (c .before .before .before .before .before .before .first-in-flight .ensures) (not-false _ (c .before .before .before .before .if1 .left))
-    (c .before .before .before .deliver-in .ensures) (c .before .before .code-of .ensures) (c .before .if2 .left)
+loop-again c = along-next (c .before .before .before .before .before .before .before .before .loop .inv) (c .before .before .before .before .before .before .before .first-in-flight .ensures) (not-false _ (c .before .before .before .before .before .if1 .left)) (a-delivery _ (c .before .before .before .step-in .ensures) (c .before .before .before .before .delivery .ensures)) (c .before .before .code-of .ensures) (c .before .if2 .left)
 
 pub drain-in-spec : {M : Type 1} → statement M
 drain-in-spec =
@@ -69,7 +66,8 @@ drain-in-spec =
     first-in-flight-requires
     drained-to-requires
     returns
-    deliver-in-requires
+    delivery-requires
+    step-in-requires
     code-of-requires
     drained-to-requires-2
     returns-2

@@ -3,6 +3,7 @@ use borrow.Author.Needs.{needs}
 use borrow.Author.Tests.{not-true, not-false}
 use mathlib.Core.Path.{sym, _∙_}
 use Rattle.steps.proofs.Settling.{checked-refused, checked-in-form}
+use Rattle.network.proofs.Calls.{a-read}
 use Rattle.network.proofs.read.Statement.{statement}
 use Rattle.network.proofs.read.Tie as tie
 
@@ -15,12 +16,22 @@ refused-requires c κs = search needs
 returns : tie.Need-returns
 returns c = c .refused .ensures ∙ sym (checked-refused _ _ (sym (c .before .before .in-form .ensures) ∙ not-true _ (c .before .if1 .taken)))
 
-read-in-requires : tie.Need-read-in-requires
-read-in-requires c κs = sym (c .before .in-form .ensures) ∙ not-false _ (c .if1 .left)
+step-at-requires : tie.Need-step-at-requires
+step-at-requires c κs = search needs
+
+step-in-requires : tie.Need-step-in-requires
+step-in-requires c κs = sym (c .before .before .in-form .ensures) ∙ not-false _ (c .before .if1 .left)
 
 returns-2 : tie.Need-returns-2
-returns-2 c = c .read-in .ensures ∙ sym (checked-in-form _ _ (sym (c .before .before .in-form .ensures) ∙ not-false _ (c .before .if1 .left)))
+returns-2 c = a-read _ (c .step-in .ensures) (c .before .step-at .ensures) ∙ sym (checked-in-form _ _ (sym (c .before .before .before .in-form .ensures) ∙ not-false _ (c .before .before .if1 .left)))
 
 pub read-spec : {M : Type 1} → statement M
 read-spec =
-    tie.close (tie.spec in-form-requires refused-requires returns read-in-requires returns-2)
+    tie.close
+    (tie.spec
+    in-form-requires
+    refused-requires
+    returns
+    step-at-requires
+    step-in-requires
+    returns-2)

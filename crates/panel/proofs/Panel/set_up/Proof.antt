@@ -2,10 +2,9 @@
 use borrow.Author.Needs.{needs}
 use borrow.Author.Tests.{not-true, not-false}
 use mathlib.Core.Path.{sym, _∙_}
-use Rattle.basics.proofs.Choices.{ite-true, ite-false}
+use Rattle.panel.proofs.Calling.{made-unfit, made-elsewhere, made-done}
 use Rattle.panel.proofs.Panel.set_up.Statement.{statement}
 use Rattle.panel.proofs.Panel.set_up.Tie as tie
-use Rattle.panel.specs.Calls.{made}
 
 fits-requires : tie.Need-fits-requires
 fits-requires c κs = search needs
@@ -14,8 +13,7 @@ not-made-requires : tie.Need-not-made-requires
 not-made-requires c κs = search needs
 
 returns : tie.Need-returns
-unfolding made
-returns c = c .not-made .ensures ∙ sym (ite-false _ _ (sym (c .before .before .fits2 .ensures) ∙ not-true _ (c .before .if1 .taken)))
+returns c = c .not-made .ensures ∙ sym (made-unfit _ _ _ _ _ (sym (c .before .before .fits2 .ensures) ∙ not-true _ (c .before .if1 .taken)))
 
 is-panel-requires : tie.Need-is-panel-requires
 is-panel-requires c κs = search needs
@@ -24,15 +22,13 @@ not-made-requires-2 : tie.Need-not-made-requires-2
 not-made-requires-2 c κs = search needs
 
 returns-2 : tie.Need-returns-2
-unfolding made
-returns-2 c = c .not-made2 .ensures ∙ sym (ite-true _ _ (sym (c .before .before .before .before .fits2 .ensures) ∙ not-false _ (c .before .before .before .if1 .left)) ∙ ite-false _ _ (sym (c .before .before .is-panel .ensures) ∙ not-true _ (c .before .if2 .taken)))
+returns-2 c = c .not-made2 .ensures ∙ sym (made-elsewhere _ _ _ _ _ (sym (c .before .before .before .before .fits2 .ensures) ∙ not-false _ (c .before .before .before .if1 .left)) (sym (c .before .before .is-panel .ensures) ∙ not-true _ (c .before .if2 .taken)))
 
 fresh-requires : tie.Need-fresh-requires
 fresh-requires c κs = search needs
 
 returns-3 : tie.Need-returns-3
-unfolding made
-returns-3 c = simp (c .fresh .ensures) (sym (ite-true _ _ (sym (c .before .before .before .before .fits2 .ensures) ∙ not-false _ (c .before .before .before .if1 .left)) ∙ ite-true _ _ (sym (c .before .before .is-panel .ensures) ∙ not-false _ (c .before .if2 .left))))
+returns-3 c = simp (c .fresh .ensures) (sym (made-done _ _ _ _ _ (sym (c .before .before .before .before .fits2 .ensures) ∙ not-false _ (c .before .before .before .if1 .left)) (sym (c .before .before .is-panel .ensures) ∙ not-false _ (c .before .if2 .left))))
 
 pub set-up-spec : {M : Type 1} → statement M
 set-up-spec =

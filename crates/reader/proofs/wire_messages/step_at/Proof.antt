@@ -5,8 +5,9 @@ use lib.ListN.{length}
 use mathlib.Core.List.{List}
 use mathlib.Core.Path.{ap, _∙_}
 use native.Mathlib.Omega.{arith}
+use Rattle.basics.proofs.Lists.{part-behind}
 use Rattle.wire.specs.Messages.{reading}
-use Rattle.reader.proofs.MessageSteps.{step-below, step-is, step-past, part-behind}
+use Rattle.reader.proofs.MessageSteps.{step-below, step-is, step-past}
 use Rattle.reader.proofs.wire_messages.step_at.Statement.{statement}
 use Rattle.reader.proofs.wire_messages.step_at.Tie as tie
 

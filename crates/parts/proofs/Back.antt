@@ -1,0 +1,265 @@
+-- A step on the parts of a network in form, put back, is the network's step.
+-- Assumes nothing.
+use mathlib.Core.Path.{_≡_, refl, sym, ap, ap₂, subst, _∙_}
+use mathlib.Core.Bool.{Bool, true, false}
+use mathlib.Core.List.{List}
+use mathlib.Core.Logic.{_≢_}
+use Prim.Native.Nat.{ℕ, _-_, _≤_, _<_}
+use native.Mathlib.Decide.{ℕ-discrete}
+use native.Mathlib.Omega.{arith}
+use lib.Dec.{eqb}
+use lib.ListN.{getD, set}
+use lib.Seq.{set-getD, set-set, getD-set-other}
+use borrow.Author.Tests.{eq-eqb, ne-eqb, le-leb}
+use Rattle.basics.specs.Choice.{ite}
+use Rattle.basics.specs.Refusal.{Trial, firstOf}
+use Rattle.basics.proofs.Choices.{ite-true, ite-false}
+use Rattle.refusals.specs.Refusals.Event.{write, read}
+use Rattle.events.specs.declared.Answer.the-variants.{Nothing}
+use Rattle.panel.specs.declared.Panel.{Panel}
+use Rattle.panel.specs.declared.Next.{Next}
+use Rattle.panel.specs.Calls.{after}
+use Rattle.promise.specs.View.{codeOf}
+use Rattle.channels.specs.declared.Row.{Row}
+use Rattle.channels.specs.Channels.{noRow, valueIn, channelAt}
+use Rattle.channels.specs.Posting.{postedAll, taken}
+use Rattle.house.specs.declared.Network.{Network}
+use Rattle.house.specs.Places.{nobody, panelAt, rowAt, channelOf, nOf, writerOf, withPanel, withRow}
+use Rattle.house.specs.NetForm.{netForm}
+use Rattle.house.proofs.NetForms.{form-view, writer-low, writer-high}
+use Rattle.steps.specs.declared.Stepped.{Stepped}
+use Rattle.steps.specs.Steps as steps
+use Rattle.steps.specs.Steps.{isPair, comes, writeIn, readIn, deliverIn, loseIn}
+use Rattle.steps.proofs.Settling as settling
+use Rattle.steps.proofs.Passing.{pair-iff, places-apart, may-read}
+use Rattle.parts.specs.declared.Step.{Step}
+use Rattle.parts.specs.declared.Parts.{Parts}
+use Rattle.parts.specs.declared.Moved.{Moved}
+use Rattle.parts.specs.Acting.{placeWithin, actorOf, senderOf, withFrom, withTaken, withActor, refusedBy, tried, writeTrials, readTrials, deliverTrials, loseTrials, settled, written, begun, delivered, lost, moved}
+use Rattle.parts.proofs.Trials.{acts-write, acts-read, acts-deliver, acts-lose, acts-none}
+use Rattle.parts.specs.Steps.{partsAt, putBack, movedIn, putBackFor, stepIn}
+
+-- what a step on the parts at places i and j comes to, put back
+abbrev pub back : Network → ℕ → ℕ → Moved → Stepped
+back s i j a = record { network = putBack s i j (a .parts); answer = a .answer }
+
+-- ---- what is as it was
+
+pub unmoved : (s : Network) (i j : ℕ) → putBack s i j (partsAt s i j) ≡ s
+unmoved s i j =
+    ap₂ (λ (ps : List Panel) (rs : List Row). record { panels = ps; rows = rs; down = s .down })
+    (set-getD (s .panels) j nobody)
+    (ap (λ (rs : List Row). set rs j (rowAt s j)) (set-getD (s .rows) i noRow) ∙ set-getD (s .rows) j noRow)
+
+refused-back : (s : Network) (i j k : ℕ) → back s i j (refusedBy (partsAt s i j) k) ≡ steps.refusedBy s k
+refused-back s i j k = ap (λ (x : Network). steps.refusedBy x k) (unmoved s i j)
+
+-- ---- trials
+
+-- the same trials: where they are passed, what they lead to is the same
+tried-back :
+    (ts : List Trial) (s : Network) (i j : ℕ) (a : Moved) (b : Stepped) → (firstOf ts ≡ 0 → back s i j a ≡ b) →
+    back s i j (tried ts (partsAt s i j) a) ≡ steps.tried ts s b
+unfolding tried steps.tried
+tried-back ts s i j a b same = by (ℕ-discrete (firstOf ts) 0)
+  where
+    by : Dec (firstOf ts ≡ 0) → back s i j (tried ts (partsAt s i j) a) ≡ steps.tried ts s b
+    by (yes z) = ap (back s i j) (ite-true _ _ (eq-eqb _ _ z)) ∙ same z ∙ sym (ite-true _ _ (eq-eqb _ _ z))
+    by (no n) = ap (back s i j) (ite-false _ _ (ne-eqb _ _ n)) ∙ refused-back s i j _ ∙ sym (ite-false _ _ (ne-eqb _ _ n))
+
+-- ---- the panel's event: r are the channels that leave place i afterwards
+
+module _ (s : Network) (i j : ℕ) (r : Row) (q : Next) (own : rowAt (withRow s i r) j ≡ rowAt s j) where
+  abbrev Same : Type 0
+  Same = back s i j (settled (partsAt s i j) (withFrom (partsAt s i j) r) q) ≡ steps.settled s (withRow s i r) j q
+
+  -- the panel accepts, and o are its channels
+  abbrev done : Row → Stepped
+  done o =
+      record {
+        network = record { panels = set (s .panels) j (q .panel); rows = set (set (s .rows) i r) j (postedAll o (q .sends) .row); down = s .down };
+        answer = q .answer;
+      }
+
+  abbrev room : Row → Bool
+  room o = postedAll o (q .sends) .fits
+
+  pub settled-back : Same
+  unfolding settled steps.settled
+  settled-back = by (ℕ-discrete (codeOf (q .answer)) 0)
+    where
+      fits : codeOf (q .answer) ≡ 0 → (b : Bool) → room (rowAt s j) ≡ b → Same
+      fits z true e =
+          ap (back s i j) (ite-true _ _ (eq-eqb _ _ z) ∙ ite-true _ _ e)
+          ∙ ap done (sym own)
+          ∙ sym (ite-true _ _ (eq-eqb _ _ z) ∙ ite-true _ _ (ap room own ∙ e))
+      fits z false e =
+          ap (back s i j) (ite-true _ _ (eq-eqb _ _ z) ∙ ite-false _ _ e)
+          ∙ refused-back s i j 14
+          ∙ sym (ite-true _ _ (eq-eqb _ _ z) ∙ ite-false _ _ (ap room own ∙ e))
+
+      by : Dec (codeOf (q .answer) ≡ 0) → Same
+      by (yes z) = fits z (room (rowAt s j)) refl
+      by (no n) = ap (back s i j) (ite-false _ _ (ne-eqb _ _ n)) ∙ refused-back s i j _ ∙ sym (ite-false _ _ (ne-eqb _ _ n))
+
+-- a start takes nothing out of a channel
+started-back : (s : Network) (j : ℕ) (q : Next) → back s j j (settled (partsAt s j j) (partsAt s j j) q) ≡ steps.settled s s j q
+started-back s j q =
+    settled-back s j j (rowAt s j) q (ap (λ (rs : List Row). getD rs j noRow) same)
+    ∙ ap (λ (rs : List Row). steps.settled s (record { panels = s .panels; rows = rs; down = s .down }) j q) same
+  where
+    same : set (s .rows) j (rowAt s j) ≡ s .rows
+    same = set-getD (s .rows) j noRow
+
+-- ---- the steps
+
+place-is : {i : ℕ} → i ≤ 7 → placeWithin i ≡ i - 1
+unfolding placeWithin
+place-is h = ite-true _ _ (le-leb _ _ h)
+
+module _ (s : Network) (f : netForm s ≡ true) where
+  low : {i : ℕ} → i ≤ nOf s → i ≤ 7
+  low {i} h = omega (arith, h, form-view s f .n-high)
+
+  write-back : (v : ℕ) {p : ℕ} → p ≡ placeWithin (writerOf s) → back s p p (written (partsAt s p p) v) ≡ writeIn s v
+  unfolding written writeIn writeTrials steps.writeTrials
+  write-back v {p} e =
+      subst (λ (j : ℕ). back s j j (written (partsAt s j j) v) ≡ writeIn s v)
+      (sym (e ∙ place-is (low (writer-high s (form-view s f)))))
+      (tried-back (steps.writeTrials s) s (writerOf s - 1) (writerOf s - 1) _ _ (λ _. started-back s (writerOf s - 1) _))
+
+  read-back : (i : ℕ) {p : ℕ} → p ≡ placeWithin i → back s p p (begun (partsAt s p p) i) ≡ readIn s i
+  unfolding begun readIn readTrials steps.readTrials
+  read-back i {p} e =
+      tried-back (steps.readTrials s i) s p p _ _
+      (λ z.
+      subst (λ (j : ℕ). back s j j (settled (partsAt s j j) (partsAt s j j) (after (panelAt s j) read)) ≡ steps.settled s s (i - 1) (after (panelAt s (i - 1)) read))
+      (sym (e ∙ place-is (low (may-read s i .0 z .high))))
+      (started-back s (i - 1) _))
+
+  lose-back : (i p : ℕ) → back s p p (lost (partsAt s p p) i) ≡ loseIn s i
+  unfolding lost loseIn loseTrials steps.loseTrials
+  lose-back i p =
+      tried-back (steps.loseTrials s i) s p p _ _
+      (λ _. ap (λ (x : Network). record { network = record { panels = x .panels; rows = x .rows; down = set (s .down) (i - 1) true }; answer = Nothing }) (unmoved s p p))
+
+  -- the message taken out, the panel's own channels are as they were
+  delivered-back :
+      (k i j : ℕ) → i - 1 ≢ j - 1 →
+      back s (i - 1) (j - 1)
+      (settled (partsAt s (i - 1) (j - 1)) (withTaken (partsAt s (i - 1) (j - 1)) k j)
+      (after (panelAt s (j - 1)) (comes k i (valueIn (channelOf s (i - 1) (j - 1)) k))))
+      ≡ steps.settled s (withRow s (i - 1) (taken (rowAt s (i - 1)) (j - 1) k)) (j - 1)
+      (after (panelAt s (j - 1)) (comes k i (valueIn (channelOf s (i - 1) (j - 1)) k)))
+  delivered-back k i j apart = settled-back s (i - 1) (j - 1) _ _ (getD-set-other (s .rows) (i - 1) (j - 1) _ noRow (λ e. apart (sym e)))
+
+  module _ (k i j : ℕ) where
+    abbrev At : ℕ → ℕ → Type 0
+    At o p = back s o p (delivered (partsAt s o p) k i j) ≡ deliverIn s k i j
+
+    nobody-there : (o p : ℕ) → isPair (nOf s) i j ≡ false → At o p
+    unfolding delivered deliverIn deliverTrials steps.deliverTrials tried steps.tried firstOf ite
+    nobody-there o p h = simp h (refused-back s o p 4)
+
+    there : isPair (nOf s) i j ≡ true → At (i - 1) (j - 1)
+    unfolding delivered deliverIn deliverTrials steps.deliverTrials
+    there h = tried-back (steps.deliverTrials s k i j) s (i - 1) (j - 1) _ _ (λ _. delivered-back k i j (places-apart (pair-iff (nOf s) i j .0 h)))
+
+    deliver-back : {o p : ℕ} → o ≡ placeWithin i → p ≡ placeWithin j → At o p
+    deliver-back {o} {p} d e = by (isPair (nOf s) i j) refl
+      where
+        by : (b : Bool) → isPair (nOf s) i j ≡ b → At o p
+        by true h =
+            let pair = pair-iff (nOf s) i j .0 h in
+            subst (λ (x : ℕ). At x p) (sym (d ∙ place-is (low (pair .sender-high))))
+            (subst (λ (x : ℕ). At (i - 1) x) (sym (e ∙ place-is (low (pair .receiver-high)))) (there h))
+        by false h = nobody-there o p h
+
+  -- ---- a step by what it is
+
+  module _ (m : Step) where
+    abbrev from : ℕ
+    from = senderOf m (writerOf s)
+
+    abbrev at : ℕ
+    at = actorOf m (writerOf s)
+
+    abbrev Back : ℕ → Type 0
+    Back o = back s o at (moved (partsAt s o at) m) ≡ stepIn s m
+
+    -- only a delivery has another place too
+    by-one : m .what ≢ 3 → Back at → Back from
+    unfolding senderOf
+    by-one c h = subst Back (sym (ite-false _ _ (ne-eqb _ _ c))) h
+
+    from-is : m .what ≡ 3 → from ≡ placeWithin (m .from)
+    unfolding senderOf
+    from-is c = ite-true _ _ (eq-eqb _ _ c)
+
+    writer-is : m .what ≡ 1 → at ≡ placeWithin (writerOf s)
+    unfolding actorOf
+    writer-is a = ite-true _ _ (eq-eqb _ _ a)
+
+    at-is : m .what ≢ 1 → at ≡ placeWithin (m .at)
+    unfolding actorOf
+    at-is a = ite-false _ _ (ne-eqb _ _ a)
+
+    none-case : m .what ≢ 1 → m .what ≢ 2 → m .what ≢ 3 → m .what ≢ 4 → Back from
+    unfolding stepIn
+    none-case a b c d =
+        by-one c
+        (ap (back s at at) (sym (acts-none _ m a b c d))
+        ∙ ap (λ (x : Network). record { network = x; answer = Nothing }) (unmoved s at at)
+        ∙ sym (ite-false _ _ (ne-eqb _ _ a) ∙ ite-false _ _ (ne-eqb _ _ b) ∙ ite-false _ _ (ne-eqb _ _ c) ∙ ite-false _ _ (ne-eqb _ _ d)))
+
+    lose-case : m .what ≢ 1 → m .what ≢ 2 → m .what ≢ 3 → Dec (m .what ≡ 4) → Back from
+    unfolding stepIn
+    lose-case a b c (yes d) =
+        by-one c
+        (ap (back s at at) (sym (acts-lose _ m a b c d))
+        ∙ lose-back (m .at) at
+        ∙ sym (ite-false _ _ (ne-eqb _ _ a) ∙ ite-false _ _ (ne-eqb _ _ b) ∙ ite-false _ _ (ne-eqb _ _ c) ∙ ite-true _ _ (eq-eqb _ _ d)))
+    lose-case a b c (no d) = none-case a b c d
+
+    deliver-case : m .what ≢ 1 → m .what ≢ 2 → Dec (m .what ≡ 3) → Back from
+    unfolding stepIn
+    deliver-case a b (yes c) =
+        ap (back s from at) (sym (acts-deliver _ m a b c))
+        ∙ deliver-back (m .kind) (m .from) (m .at) (from-is c) (at-is a)
+        ∙ sym (ite-false _ _ (ne-eqb _ _ a) ∙ ite-false _ _ (ne-eqb _ _ b) ∙ ite-true _ _ (eq-eqb _ _ c))
+    deliver-case a b (no c) = lose-case a b c (ℕ-discrete (m .what) 4)
+
+    read-case : m .what ≢ 1 → Dec (m .what ≡ 2) → Back from
+    unfolding stepIn
+    read-case a (yes b) =
+        by-one (λ c. omega (arith, b))
+        (ap (back s at at) (sym (acts-read _ m a b))
+        ∙ read-back (m .at) (at-is a)
+        ∙ sym (ite-false _ _ (ne-eqb _ _ a) ∙ ite-true _ _ (eq-eqb _ _ b)))
+    read-case a (no b) = deliver-case a b (ℕ-discrete (m .what) 3)
+
+    write-case : Dec (m .what ≡ 1) → Back from
+    unfolding stepIn
+    write-case (yes a) =
+        by-one (λ c. omega (arith, a))
+        (ap (back s at at) (sym (acts-write _ m a)) ∙ write-back (m .value) (writer-is a) ∙ sym (ite-true _ _ (eq-eqb _ _ a)))
+    write-case (no a) = read-case a (ℕ-discrete (m .what) 2)
+
+    pub moved-back : back s from at (movedIn s m) ≡ stepIn s m
+    moved-back = write-case (ℕ-discrete (m .what) 1)
+
+-- with the places and what is made of the parts as the code holds them
+pub step-back :
+    (s : Network) → netForm s ≡ true → (m : Step) {o p : ℕ} → o ≡ senderOf m (writerOf s) → p ≡ actorOf m (writerOf s) →
+    {a : Moved} → a ≡ moved (partsAt s o p) m → back s o p a ≡ stepIn s m
+step-back s f m {o} {p} from at e =
+    ap (back s o p) e ∙ ap₂ (λ (i j : ℕ). back s i j (moved (partsAt s i j) m)) from at ∙ moved-back s f m
+
+-- no step leaves any network as it is
+pub still-back : (s : Network) (m : Step) → m .what ≡ 0 → back s (senderOf m (writerOf s)) (actorOf m (writerOf s)) (movedIn s m) ≡ record { network = s; answer = Nothing }
+still-back s m z =
+    ap (back s (senderOf m (writerOf s)) (actorOf m (writerOf s))) (sym (acts-none _ m (not-step 1 (omega arith)) (not-step 2 (omega arith)) (not-step 3 (omega arith)) (not-step 4 (omega arith))))
+    ∙ ap (λ (x : Network). record { network = x; answer = Nothing }) (unmoved s _ _)
+  where
+    not-step : (k : ℕ) → 0 < k → m .what ≢ k
+    not-step k h e = omega (arith, z)

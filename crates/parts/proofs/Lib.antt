@@ -1,0 +1,3 @@
+pub mod Trials
+pub mod Back
+pub mod Outcomes
