@@ -18,6 +18,13 @@ unfolding ite
 ite-case P true x y f g = f refl
 ite-case P false x y f g = g refl
 
+-- two choices by one test: what holds of their first outcomes and of their second ones, each where the test came out so, holds of them
+pub ite-two {ℓ κ μ} :
+    {A : Type ℓ} {B : Type κ} (R : A → B → Type μ) (b : Bool) (x y : A) (u v : B) → (b ≡ true → R x u) → (b ≡ false → R y v) → R (ite b x y) (ite b u v)
+unfolding ite
+ite-two R true x y u v f g = f refl
+ite-two R false x y u v f g = g refl
+
 -- no test comes out both ways
 pub clash : {A : Type 0} {b : Bool} → b ≡ false → b ≡ true → A
 clash {A} {b} f t = absurd (subst (λ (c : Bool). tell c) (sym f ∙ t) tt)

@@ -10,8 +10,8 @@ use native.Mathlib.Omega.{arith}
 use lib.Dec.{eqb}
 use borrow.Author.Tests.{eqb-true, eq-eqb, leb-true, le-leb, not-true}
 use Rattle.basics.specs.Choice.{ite, both}
-use Rattle.basics.specs.Below.{oneIf}
 use Rattle.basics.proofs.Choices.{clash, ite-false, ite-case, both-left, both-right, both-true}
+use Rattle.basics.proofs.Ones.{one-most}
 use Rattle.tables.specs.declared.Hold.{Hold}
 use Rattle.tables.specs.Places.{noHold}
 use Rattle.channels.specs.declared.Channel.{Channel}
@@ -73,16 +73,12 @@ none-form = record { write0-zero = λ _. refl; write1-zero = λ _. refl; reads-t
 
 -- no more is in flight than may be
 pub form-within : (c : Channel) → ChannelForm c → (k : ℕ) → inFlight c k ≤ cap k
-unfolding inFlight cap byKind ite oneIf
+unfolding inFlight cap byKind ite
 form-within c f k = by (decLt k 4)
   where
-    one : (b : Bool) → oneIf b ≤ 1
-    one true = omega arith
-    one false = omega arith
-
     near : (k : ℕ) → k < 4 → inFlight c k ≤ cap k
-    near zero h = one (c .write0 .full)
-    near (suc zero) h = one (c .write1 .full)
+    near zero h = one-most (c .write0 .full)
+    near (suc zero) h = one-most (c .write1 .full)
     near (suc (suc zero)) h = f .reads-top
     near (suc (suc (suc zero))) h = f .proceeds-top
     near (suc (suc (suc (suc k)))) h = absurd (omega arith)
@@ -127,12 +123,6 @@ module _ (c : Channel) (f : ChannelForm c) where
       (λ _. reads-form _ (omega (arith, f .reads-top)))
       (λ _. proceeds-form _ (omega (arith, f .proceeds-top)))
       (λ _. f)
-
-pub joined-ok : (c : Channel) (k v : ℕ) → channelOk c ≡ true → channelOk (joined c k v) ≡ true
-joined-ok c k v h = channelOk-iff _ .1 (joined-form c (channelOk-iff c .0 h) k v)
-
-pub less-ok : (c : Channel) (k : ℕ) → channelOk c ≡ true → channelOk (less c k) ≡ true
-less-ok c k h = channelOk-iff _ .1 (less-form c (channelOk-iff c .0 h) k)
 
 pub less-none : (k : ℕ) → less noChannel k ≡ noChannel
 unfolding less

@@ -8,10 +8,11 @@ use Prim.Native.Nat.{ℕ, zero, suc, _+_, _≤_, _<_}
 use native.Mathlib.Decide.{ℕ-discrete, decLt}
 use native.Mathlib.Omega.{arith}
 use lib.Dec.{ltb, eqb}
-use borrow.Author.Tests.{ltb-true, lt-ltb, not-true, eq-eqb, ne-eqb}
+use borrow.Author.Tests.{ltb-true, lt-ltb, not-true}
 use Rattle.basics.specs.Choice.{ite}
 use Rattle.basics.specs.Below.{oneIf}
 use Rattle.basics.proofs.Choices.{clash, ite-case}
+use Rattle.basics.proofs.Ones.{one-same, nought-apart}
 use Rattle.channels.specs.declared.Channel.{Channel}
 use Rattle.channels.specs.Channels.{byKind, noChannel, inFlight, has, room, joined, less}
 use Rattle.channels.proofs.ByKind.{at-read, at-proceed, at-other, not-at, but-write0, but-write1, but-read, but-proceed, kind-case}
@@ -143,24 +144,16 @@ module _ (c : Channel) (m : ℕ) where
       (λ e. but-proceed _ _ _ _ _ _ (not-at d e))
       (λ _. refl)
 
-  one-here : (k : ℕ) → m ≡ k → oneIf (eqb m k) ≡ 1
-  unfolding oneIf
-  one-here k e = rw (eq-eqb m k e)
-
-  none-here : (k : ℕ) → m ≢ k → oneIf (eqb m k) ≡ 0
-  unfolding oneIf
-  none-here k d = rw (ne-eqb m k d)
-
   pub joined-adds : (k v : ℕ) → room c k ≡ true → inFlight (joined c k v) m ≡ inFlight c m + oneIf (eqb m k)
   joined-adds k v h = by (ℕ-discrete m k)
     where
       by : Dec (m ≡ k) → inFlight (joined c k v) m ≡ inFlight c m + oneIf (eqb m k)
-      by (yes e) = omega (arith, subst (λ (x : ℕ). inFlight (joined c k v) x ≡ inFlight c x + 1) (sym e) (joined-one c k v h), one-here k e)
-      by (no d) = omega (arith, joined-ne k v d, none-here k d)
+      by (yes e) = omega (arith, subst (λ (x : ℕ). inFlight (joined c k v) x ≡ inFlight c x + 1) (sym e) (joined-one c k v h), one-same e)
+      by (no d) = omega (arith, joined-ne k v d, nought-apart d)
 
   pub less-takes : (k : ℕ) → has c k ≡ true → inFlight (less c k) m + oneIf (eqb m k) ≡ inFlight c m
   less-takes k h = by (ℕ-discrete m k)
     where
       by : Dec (m ≡ k) → inFlight (less c k) m + oneIf (eqb m k) ≡ inFlight c m
-      by (yes e) = omega (arith, subst (λ (x : ℕ). inFlight (less c k) x + 1 ≡ inFlight c x) (sym e) (less-one c k h), one-here k e)
-      by (no d) = omega (arith, less-ne k d, none-here k d)
+      by (yes e) = omega (arith, subst (λ (x : ℕ). inFlight (less c k) x + 1 ≡ inFlight c x) (sym e) (less-one c k h), one-same e)
+      by (no d) = omega (arith, less-ne k d, nought-apart d)

@@ -15,6 +15,7 @@ use borrow.Author.Tests.{eqb-true, eq-eqb, ne-eqb}
 use Rattle.basics.specs.Choice.{both}
 use Rattle.basics.specs.Below.{oneIf}
 use Rattle.basics.proofs.Choices.{both-left, both-right, both-false-left}
+use Rattle.basics.proofs.Ones.{nought, one-most, one-same}
 use Rattle.messages.specs.Sends.{Message}
 use Rattle.messages.specs.Tally.{tally}
 use Rattle.channels.specs.declared.Channel.{Channel}
@@ -39,25 +40,15 @@ eqb-either a b = by (ℕ-discrete a b)
     by (yes e) = eq-eqb a b e ∙ sym (eq-eqb b a (sym e))
     by (no d) = ne-eqb a b d ∙ sym (ne-eqb b a (λ e. d (sym e)))
 
-nought : oneIf false ≡ 0
-unfolding oneIf
-nought = refl
-
 counts-few : (m : Message) (l k : ℕ) → counts m l k ≤ 1
-unfolding oneIf
-counts-few m l k = few (both (eqb (m .to) (l + 1)) (eqb (m .kind) k))
-  where
-    few : (b : Bool) → oneIf b ≤ 1
-    few true = omega arith
-    few false = omega arith
+counts-few m l k = one-most (both (eqb (m .to) (l + 1)) (eqb (m .kind) k))
 
 counts-there : (m : Message) (l k : ℕ) → m .to ≡ l + 1 → counts m l k ≡ oneIf (eqb k (m .kind))
 unfolding both
 counts-there m l k e = rw (eq-eqb (m .to) (l + 1) e) (ap oneIf (eqb-either (m .kind) k))
 
 counts-elsewhere : (m : Message) (l k : ℕ) → m .to ≢ l + 1 → counts m l k ≡ 0
-unfolding oneIf
-counts-elsewhere m l k d = ap oneIf (both-false-left _ (ne-eqb _ _ d))
+counts-elsewhere m l k d = ap oneIf (both-false-left _ (ne-eqb _ _ d)) ∙ nought
 
 module _ (r : Row) (whole : length (r .to) ≡ 7) (m : Message) (f : Fits r m) where
   -- it is in flight, and nothing else changed
@@ -104,8 +95,7 @@ pub record RoomFor (r : Row) (ms : List Message) : Type 0 where
   pub spare : (l k : ℕ) → l < 7 → k < 4 → 1 ≤ tally ms (l + 1) k → inFlight (channelAt r l) k + tally ms (l + 1) k ≤ cap k
 
 pub counts-self : (m : Message) (l : ℕ) → m .to ≡ l + 1 → counts m l (m .kind) ≡ 1
-unfolding oneIf
-counts-self m l e = counts-there m l (m .kind) e ∙ ap oneIf (eq-eqb (m .kind) (m .kind) refl)
+counts-self m l e = counts-there m l (m .kind) e ∙ one-same {m = m .kind} refl
 
 counts-only : (m : Message) (l k : ℕ) → 1 ≤ counts m l k → (m .to ≡ l + 1) × (m .kind ≡ k)
 counts-only m l k = by (both (eqb (m .to) (l + 1)) (eqb (m .kind) k)) refl

@@ -114,9 +114,6 @@ module _ (r : Row) (n i : ℕ) (whole : length (r .to) ≡ 7) (e : rowOk r n i �
   pub row-own : channelAt r i ≡ noChannel
   row-own = everywhere (λ (c : Channel). c ≡ noChannel) i refl (λ h. rowOk-iff r n i .0 e .own h)
 
-  pub row-past : (j : ℕ) → n ≤ j → channelAt r j ≡ noChannel
-  row-past j l = everywhere (λ (c : Channel). c ≡ noChannel) j refl (λ h. rowOk-iff r n i .0 e .past j h l)
-
   pub row-within : (j k : ℕ) → inFlight (channelAt r j) k ≤ cap k
   row-within j k = form-within _ (everywhere ChannelForm j none-form (λ h. rowOk-iff r n i .0 e .formed j h)) k
 

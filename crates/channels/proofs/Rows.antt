@@ -5,10 +5,11 @@ use mathlib.Core.Bool.{true}
 use mathlib.Core.Logic.{_≢_}
 use mathlib.Core.List.{List, [], _∷_}
 use Prim.Native.Nat.{ℕ, _-_, _≤_, _<_}
-use native.Mathlib.Decide.{ℕ-discrete, decLt}
+use native.Mathlib.Decide.{ℕ-discrete}
 use native.Mathlib.Omega.{arith}
-use lib.ListN.{length, length-set, List·getD-eq-default, getD-replicate, length-replicate}
+use lib.ListN.{length, length-set, List·getD-eq-default, length-replicate}
 use lib.Seq.{getD-set-same, getD-set-other, set-out}
+use Rattle.basics.proofs.Lists.{getD-same}
 use Rattle.messages.specs.declared.Sends.{Sends}
 use Rattle.messages.specs.Sends.{Message, messagesOf}
 use Rattle.channels.specs.declared.Channel.{Channel}
@@ -63,11 +64,7 @@ length-empty = length-replicate 7 noChannel
 
 pub channel-of-empty : (j : ℕ) → channelAt emptyRow j ≡ noChannel
 unfolding emptyRow
-channel-of-empty j = by (decLt j 7)
-  where
-    by : Dec (j < 7) → channelAt emptyRow j ≡ noChannel
-    by (yes h) = getD-replicate 7 j noChannel noChannel h
-    by (no h) = channel-past emptyRow length-empty j (omega arith)
+channel-of-empty j = getD-same 7 noChannel j
 
 pub length-put : (r : Row) (j : ℕ) (c : Channel) → length (withChannel r j c .to) ≡ length (r .to)
 unfolding withChannel

@@ -1,12 +1,12 @@
 -- The claims, on one page, in the order of the three demands. Each is a theorem proved elsewhere; nothing is added here.
 --
--- Why they are about the code: the contract of each public call of the crates `panel` and `network` says that its result is the value
--- of one definition at its arguments (called, after, made; setUp, written, begun, delivered, lost, sought, drained), and allows one
--- outcome (proofs/Outcomes of those crates). So any sequence of calls is a run of the definitions.
+-- Why they are about the code: the contract of each public call says that its result is the value of one definition at its arguments
+-- (panel: made, called, after; network: setUp, written, begun, delivered, lost, sought, drained; bytes: reading, writing; the listing:
+-- listing), and allows one outcome (proofs/Outcomes of each crate). So any sequence of calls is a run of the definitions.
 -- Assumes nothing.
 use Prim.Native.Nat.{ℕ, _-_, _≤_, _<_}
 use mathlib.Core.Path.{_≡_}
-use mathlib.Core.Bool.{true}
+use mathlib.Core.Bool.{true, false}
 use mathlib.Core.List.{List, _++_}
 use mathlib.Core.Logic.{_≢_}
 use lib.ListN.{length}
@@ -14,86 +14,70 @@ use Rattle.codec.specs.Numbers.{Bytes}
 use Rattle.wire.specs.declared.Taken.the-variants as Read
 use Rattle.wire.specs.Messages.{bytesOfMessage, reading}
 use Rattle.wire.proofs.Laws as wire
-use Rattle.messages.specs.Area.{Area, roomOf}
 use Rattle.form.specs.declared.Operation.the-variants.{Idle}
 use Rattle.form.specs.declared.Tables.{Tables}
 use Rattle.form.specs.Form.{fits}
-use Rattle.basics.specs.Refusal.{firstOf}
-use Rattle.refusals.specs.Refusals.{Event, trials, refusal}
-use Rattle.refusals.specs.Refusals.Event.{write, read}
+use Rattle.refusals.specs.Refusals.{Event, refusal}
 use Rattle.events.specs.Events.{rule, lookedAt, happens}
 use Rattle.events.proofs.Kept as events
-use Rattle.panel.specs.declared.Panel.{Panel}
-use Rattle.panel.specs.Calls as panel
 use Rattle.promise.specs.View.{codeOf}
 use Rattle.promise.proofs.Happenings.{accepted}
 use Rattle.channels.specs.Channels.{has}
 use Rattle.house.specs.declared.Network.{Network}
-use Rattle.house.specs.Places.{panelAt, tablesAt, channelOf, writerOf}
+use Rattle.house.specs.Places.{tablesAt, channelOf}
+use Rattle.house.specs.NetForm.{netForm}
 use Rattle.house.specs.Search.{live}
 use Rattle.house.proofs.Searching.{Pair}
-use Rattle.steps.specs.Steps.{writeTrials, readTrials, deliverTrials, written, begun, delivered, lost}
-use Rattle.steps.specs.Moves.{arriving}
-use Rattle.steps.specs.Drain.{drained}
+use Rattle.steps.specs.Steps.{deliverIn, loseIn, delivered}
+use Rattle.steps.specs.Drain.{drainedTo, drained}
 use Rattle.steps.specs.SetUp.{freshNetwork}
 use Rattle.steps.proofs.Networks.{Good}
-use Rattle.steps.proofs.Keeping.{Kept, written-kept, begun-kept, delivered-kept, lost-kept}
-use Rattle.steps.proofs.Delivering.{without}
-use Rattle.steps.proofs.WholeDrain.{drained-kept}
-use Rattle.runs.specs.Runs.{Step, after, entries, writes, reads, deliveries}
+use Rattle.steps.proofs.Keeping.{Kept}
+use Rattle.steps.proofs.Delivering.{DeliverMoves, deliver-moves}
+use Rattle.steps.proofs.WholeDrain.{drained-out-of-form}
+use Rattle.steps.proofs.Powers.{Lost, lose-lost}
+use Rattle.steps.proofs.Refusing.{OneOf}
+use Rattle.runs.specs.Runs.{Step, does, after, entries, writes, reads, deliveries}
+use Rattle.runs.specs.Runs.Step.{lose}
 use Rattle.runs.specs.Claims.{Still, AllOrdinary, mostDeliveries}
 use Rattle.runs.proofs.FromFresh as run
-use Rattle.claims.proofs.Unchanged.{First, first-met, Rising, trials-rise, PanelUnchanged, panel-unchanged}
+use Rattle.claims.specs.Tried.{Call, answerOf, trialsOf, First, Rising, Unchanged}
+use Rattle.claims.specs.Acts.{Acts, ByDeliveries, numbers}
+use Rattle.claims.proofs.InOrder as order
+use Rattle.claims.proofs.Rising as numbered
 use Rattle.claims.proofs.Unchanged as refused
-use Rattle.claims.proofs.InOrder.{allTrials, write-first, read-first, delivery-first}
+use Rattle.claims.proofs.Acting as step
 
--- ---- Demand 1. Every public call either acts or refuses by a number of the list, the first that applies in the order the list is tried.
+-- ---- Demand 1. Every public call takes anything, and acts or refuses by a number of the list. What each call tries is one table:
+-- ---- `trialsOf` of specs/Tried.
 
-pub first-that-applies : (p : Tables) (room : ℕ) (e : Event) → refusal p room e ≢ 0 → First (trials p room e) (refusal p room e)
-unfolding refusal
-first-that-applies p room e = first-met (trials p room e)
+-- The answer is the number of the first trial that applies; 0 where none does, and then the call acts.
+pub first-that-applies : (c : Call) → First (trialsOf c) (answerOf c)
+first-that-applies = order.first-that-applies
 
-pub tried-from-low-to-high : (p : Tables) (room : ℕ) (e : Event) → Rising 0 (trials p room e)
-tried-from-low-to-high = trials-rise
+-- They are tried from low to high.
+pub rising : (c : Call) → Rising 0 (trialsOf c)
+rising = numbered.rising
 
--- A step of the network tries form (2), then its own trials (4, 5, 9), then the panel's refusal, then room for what is sent (14).
+-- A refusal changes no table, channel or lent area.
+pub refused-unchanged : (c : Call) → answerOf c ≢ 0 → Unchanged c
+refused-unchanged = refused.unchanged
 
-pub write-answers-the-first :
-    (s : Network) (v : ℕ) →
-    codeOf (written s v .answer) ≡ firstOf (allTrials s (writeTrials s) s (writerOf s - 1) (panel.after (panelAt s (writerOf s - 1)) (write v)))
-write-answers-the-first = write-first
+-- A drain tries 2, and then its deliveries: refused with the number of the first that is refused, as a whole, and nothing has changed.
+pub drain-out-of-form : (s : Network) → netForm s ≡ false → drained s ≡ drainedTo s 2 0
+drain-out-of-form = drained-out-of-form
 
-pub read-answers-the-first :
-    (s : Network) (i : ℕ) → codeOf (begun s i .answer) ≡ firstOf (allTrials s (readTrials s i) s (i - 1) (panel.after (panelAt s (i - 1)) read))
-read-answers-the-first = read-first
-
-pub delivery-answers-the-first :
-    (s : Network) (k i j : ℕ) →
-    codeOf (delivered s k i j .answer)
-    ≡ firstOf (allTrials s (deliverTrials s k i j) (without s k i j) (j - 1) (panel.after (panelAt s (j - 1)) (arriving s k i j)))
-delivery-answers-the-first = delivery-first
-
--- A refusal changes no table, channel or lent buffer.
-
-pub panel-and-area-unchanged : (p : Panel) (e : Event) (a : Area) → refusal (p .tables) (roomOf a) e ≢ 0 → PanelUnchanged p e a
-panel-and-area-unchanged = panel-unchanged
-
-pub write-unchanged : (s : Network) (v : ℕ) → codeOf (written s v .answer) ≢ 0 → written s v .network ≡ s
-write-unchanged = refused.write-unchanged
-
-pub read-unchanged : (s : Network) (i : ℕ) → codeOf (begun s i .answer) ≢ 0 → begun s i .network ≡ s
-read-unchanged = refused.read-unchanged
-
-pub delivery-unchanged : (s : Network) (k i j : ℕ) → codeOf (delivered s k i j .answer) ≢ 0 → delivered s k i j .network ≡ s
-delivery-unchanged = refused.deliver-unchanged
-
-pub power-loss-unchanged : (s : Network) (i : ℕ) → codeOf (lost s i .answer) ≢ 0 → lost s i .network ≡ s
-power-loss-unchanged = refused.lose-unchanged
+pub drain-by-deliveries : (s : Network) → Good s → ByDeliveries s
+drain-by-deliveries = step.by-deliveries
 
 pub drain-unchanged : (s : Network) → drained s .refusal ≢ 0 → drained s .network ≡ s
 drain-unchanged = refused.drain-unchanged
 
--- ---- Demand 2. Each accepted step does exactly what Figure 1 says (rule), and then the operation is looked at.
+-- What a network in form can refuse, step by step: `numbers` of specs/Acts.
+pub numbers-met : (s : Network) → Good s → (e : Step) → OneOf (does s e .refusal) (numbers e)
+numbers-met = step.step-numbers
+
+-- ---- Demand 2. Each accepted step does exactly what Figure 1 says (rule), and then the operation is looked at; form is kept.
 
 pub does-what-the-figure-says : (p : Tables) (room : ℕ) (e : Event) → refusal p room e ≡ 0 → happens p room e ≡ lookedAt (rule p e)
 does-what-the-figure-says = accepted
@@ -101,23 +85,26 @@ does-what-the-figure-says = accepted
 pub panel-stays-in-form : (p : Tables) → events.Good p → (room : ℕ) (e : Event) → events.Good (happens p room e .tables)
 panel-stays-in-form = events.kept
 
-pub write-stays-in-form : (s : Network) → Good s → (v : ℕ) → Kept s (written s v .network)
-write-stays-in-form = written-kept
+-- In a network: a start or a delivery is that event at one panel, and what it sends goes into channels; a drain is the deliveries that it
+-- counts. `Acts` of specs/Acts says it of each step.
+pub network-acts : (s : Network) → Good s → (e : Step) → does s e .refusal ≡ 0 → Acts s e
+network-acts = step.step-acts
 
-pub read-stays-in-form : (s : Network) → Good s → (i : ℕ) → Kept s (begun s i .network)
-read-stays-in-form = begun-kept
+-- A delivery in numbers: its message is gone, its receiver did what a panel promises, what that sent is in flight, all else stays.
+pub delivery-moves : (s : Network) → Good s → (k i j : ℕ) → codeOf (deliverIn s k i j .answer) ≡ 0 → DeliverMoves s k i j
+delivery-moves = deliver-moves
 
-pub delivery-stays-in-form : (s : Network) → Good s → (k i j : ℕ) → Kept s (delivered s k i j .network)
-delivery-stays-in-form = delivered-kept
+-- Power loss takes one more panel down, and no other step changes who is down.
+pub power-lost : (s : Network) → Good s → (i : ℕ) → codeOf (loseIn s i .answer) ≡ 0 → Lost s i
+power-lost = lose-lost
 
-pub power-loss-stays-in-form : (s : Network) → Good s → (i : ℕ) → Kept s (lost s i .network)
-power-loss-stays-in-form = lost-kept
+pub power-kept : (s : Network) → Good s → (e : Step) → ((i : ℕ) → e ≢ lose i) → does s e .network .down ≡ s .down
+power-kept = step.step-power
 
-pub drain-stays-in-form : (s : Network) → Good s → Kept s (drained s .network)
-drain-stays-in-form = drained-kept
+pub network-stays-in-form : (s : Network) → Good s → (e : Step) → Kept s (does s e .network)
+network-stays-in-form = step.step-keeps
 
 -- Each message has one byte string, and reading it gives that message back.
-
 pub reading-gives-it-back :
     (k v : ℕ) (rest : List ℕ) → wire.Message k v → reading (bytesOfMessage k v ++ rest) ≡ Read.Message k v (length (bytesOfMessage k v))
 reading-gives-it-back = wire.read-written

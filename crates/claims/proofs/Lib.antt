@@ -1,5 +1,8 @@
 pub mod Unchanged
+pub mod Trying
 pub mod InOrder
+pub mod Rising
+pub mod Acting
 pub mod Claims
 pub mod Spared
 pub mod Opened

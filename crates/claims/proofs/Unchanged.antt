@@ -1,102 +1,102 @@
--- "A refusal gives its number only and alters no table, channel or buffer", of every call; and the number is that of the first trial
--- that applies, tried in the order of the list, from low to high.
+-- "A refusal gives its number only and alters no table, channel or buffer", of every call.
 -- Assumes nothing.
-use Prim.Native.Nat.{ℕ, zero, suc, _+_, _-_, _<_}
+use Prim.Native.Nat.{ℕ, zero, suc, _+_}
 use mathlib.Core.Path.{_≡_, refl, sym, ap, _∙_}
 use mathlib.Core.Bool.{Bool, true, false}
-use mathlib.Core.List.{List, [], _∷_}
+use mathlib.Core.List.{List, []}
 use mathlib.Core.Logic.{_≢_}
 use native.Mathlib.Omega.{arith}
-use borrow.Author.Tests.{eqb-true}
-use Rattle.basics.specs.Choice.{ite}
-use Rattle.basics.specs.Refusal.{Trial, firstOf}
-use Rattle.basics.proofs.Choices.{ite-case}
+use lib.Dec.{ltb}
 use lib.ListN.{length}
+use borrow.Author.Tests.{eqb-true, ltb-true, ltb-false}
+use Rattle.basics.specs.Refusal.{Trial}
+use Rattle.basics.proofs.Choices.{ite-case}
+use Rattle.wire.specs.declared.Put.{Put}
+use Rattle.wire.specs.declared.Put.the-variants.{Used, Refused}
+use Rattle.wire.specs.Messages.{writing}
+use Rattle.wire.proofs.Writing as message
+use Rattle.schedule.proofs.Writing as entry
 use Rattle.messages.specs.Sends.{Message, messagesOf}
 use Rattle.messages.specs.Area.{Area, laidIn, roomOf}
 use Rattle.messages.proofs.Laying.{further-none}
 use Rattle.form.specs.declared.Tables.{Tables}
-use Rattle.refusals.specs.Refusals.{Event, firstTrials, peerTrials, writeTrials, readTrials, writeFromTrials, readFromTrials, proceedFromTrials, trials, refusal}
-use Rattle.refusals.specs.Refusals.Event.{write, read, writeFrom, readFrom, proceedFrom}
+use Rattle.refusals.specs.Refusals.{Event, refusal}
 use Rattle.events.specs.Events.{happens}
 use Rattle.panel.specs.declared.Panel.{Panel}
 use Rattle.panel.specs.declared.Next.{Next}
-use Rattle.panel.specs.Calls.{panelOf, told, called}
+use Rattle.panel.specs.Calls.{panelOf, nextOf, after, told, called}
 use Rattle.promise.specs.View.{codeOf}
-use Rattle.promise.proofs.Happenings.{refused-tables, refused-messages}
+use Rattle.promise.proofs.AfterEvents.{after-code}
+use Rattle.promise.proofs.Happenings.{code-is, refused-tables, refused-messages}
 use Rattle.house.specs.declared.Network.{Network}
 use Rattle.steps.specs.declared.Stepped.{Stepped}
 use Rattle.steps.specs.declared.Drained.{Drained}
+use Rattle.steps.specs.Steps.{tried, settled, checked, writeIn, readIn, deliverIn, loseIn, written, begun, delivered, lost}
 use Rattle.steps.specs.Numbers.{loadOf}
 use Rattle.steps.specs.Drain.{nextIn, drainBy, drainIn, drained}
 use Rattle.steps.proofs.Settling.{code-nothing}
 use Rattle.steps.proofs.Draining.{by-case}
-use Rattle.steps.specs.Steps.{tried, settled, checked, writeIn, readIn, deliverIn, loseIn, written, begun, delivered, lost}
+use Rattle.listing.specs.Listing.{longest, listing}
+use Rattle.listing.proofs.Answering as listed
+use Rattle.claims.specs.Tried.{Call, wroteNumber, answerOf, SamePanel, SameBare, Unchanged}
 
--- ---- the first trial that applies
+-- ---- a panel
 
--- k is the number of a trial that applies, and none before it does
-pub data First : List Trial → ℕ → Type 0 where
-  here : {t : Trial} {ts : List Trial} → t .given ≡ true → First (t ∷ ts) (t .number)
-  later : {t : Trial} {ts : List Trial} {k : ℕ} → t .given ≡ false → First ts k → First (t ∷ ts) k
+module _ (p : Panel) (e : Event) where
+  event-unchanged : (a : Area) → refusal (p .tables) (roomOf a) e ≢ 0 → SamePanel p e a
+  unfolding called told
+  event-unchanged a n =
+      let none : messagesOf (happens (p .tables) (roomOf a) e .sends) ≡ [] = refused-messages (p .tables) (roomOf a) e n in
+      record {
+        panel = ap (λ (t : Tables). panelOf t) (refused-tables (p .tables) (roomOf a) e n);
+        count = ap length none;
+        area = ap (λ (ms : List Message). laidIn 0 ms a) none ∙ sym (further-none {l = record { count = 0; area = a }} .area-is);
+      }
 
-pub first-met : (ts : List Trial) → firstOf ts ≢ 0 → First ts (firstOf ts)
-unfolding firstOf ite
-first-met [] n = absurd (n refl)
-first-met (t ∷ ts) n = by (t .given) refl (first-met ts) n
-  where
-    by : (b : Bool) → t .given ≡ b → (firstOf ts ≢ 0 → First ts (firstOf ts)) → ite b (t .number) (firstOf ts) ≢ 0 → First (t ∷ ts) (ite b (t .number) (firstOf ts))
-    by true e rest m = here e
-    by false e rest m = later e (rest m)
+  bare-unchanged : refusal (p .tables) 107 e ≢ 0 → SameBare p e
+  unfolding after nextOf
+  bare-unchanged n =
+      record {
+        panel = ap (λ (t : Tables). panelOf t) (refused-tables (p .tables) 107 e n);
+        messages = refused-messages (p .tables) 107 e n;
+      }
 
--- the numbers rise from low on
-abbrev pub Rising : ℕ → List Trial → Type 0
-Rising low [] = Unit {0}
-Rising low (t ∷ ts) = (low < t .number) × Rising (t .number) ts
+-- ---- a network
 
-pub trials-rise : (p : Tables) (room : ℕ) (e : Event) → Rising 0 (trials p room e)
-unfolding trials writeTrials readTrials writeFromTrials readFromTrials proceedFromTrials peerTrials firstTrials
-trials-rise p room (write v) = (omega arith, (omega arith, (omega arith, (omega arith, (omega arith, tt)))))
-trials-rise p room read = (omega arith, (omega arith, (omega arith, (omega arith, tt))))
-trials-rise p room (writeFrom j b v) = (omega arith, (omega arith, (omega arith, (omega arith, tt))))
-trials-rise p room (readFrom j) = (omega arith, (omega arith, (omega arith, (omega arith, tt))))
-trials-rise p room (proceedFrom j) = (omega arith, (omega arith, (omega arith, (omega arith, tt))))
+abbrev Same : Network → Stepped → Type 0
+Same s a = codeOf (a .answer) ≢ 0 → a .network ≡ s
 
--- ---- the network
-
-abbrev Unchanged : Network → Stepped → Type 0
-Unchanged s a = codeOf (a .answer) ≢ 0 → a .network ≡ s
-
-settled-unchanged : (s s₁ : Network) (i : ℕ) (q : Next) → Unchanged s (settled s s₁ i q)
+settled-unchanged : (s s₁ : Network) (i : ℕ) (q : Next) → Same s (settled s s₁ i q)
 unfolding settled
 settled-unchanged s s₁ i q =
-    ite-case (Unchanged s) _ _ _
-    (λ e. ite-case (Unchanged s) _ _ _ (λ _ n. absurd (n (eqb-true _ _ e))) (λ _ _. refl))
+    ite-case (Same s) _ _ _
+    (λ e. ite-case (Same s) _ _ _ (λ _ n. absurd (n (eqb-true _ _ e))) (λ _ _. refl))
     (λ _ _. refl)
 
-tried-unchanged : (ts : List Trial) (s : Network) (a : Stepped) → Unchanged s a → Unchanged s (tried ts s a)
+tried-unchanged : (ts : List Trial) (s : Network) (a : Stepped) → Same s a → Same s (tried ts s a)
 unfolding tried
-tried-unchanged ts s a h = ite-case (Unchanged s) _ _ _ (λ _. h) (λ _ _. refl)
+tried-unchanged ts s a h = ite-case (Same s) _ _ _ (λ _. h) (λ _ _. refl)
 
-checked-unchanged : (s : Network) (a : Stepped) → Unchanged s a → Unchanged s (checked s a)
+checked-unchanged : (s : Network) (a : Stepped) → Same s a → Same s (checked s a)
 unfolding checked
-checked-unchanged s a h = ite-case (Unchanged s) _ _ _ (λ _. h) (λ _ _. refl)
+checked-unchanged s a h = ite-case (Same s) _ _ _ (λ _. h) (λ _ _. refl)
 
-pub write-unchanged : (s : Network) (v : ℕ) → Unchanged s (written s v)
-unfolding writeIn
-write-unchanged s v = checked-unchanged s _ (tried-unchanged _ s _ (settled-unchanged s s _ _))
+module _ (s : Network) where
+  write-unchanged : (v : ℕ) → Same s (written s v)
+  unfolding writeIn
+  write-unchanged v = checked-unchanged s _ (tried-unchanged _ s _ (settled-unchanged s s _ _))
 
-pub read-unchanged : (s : Network) (i : ℕ) → Unchanged s (begun s i)
-unfolding readIn
-read-unchanged s i = checked-unchanged s _ (tried-unchanged _ s _ (settled-unchanged s s _ _))
+  read-unchanged : (i : ℕ) → Same s (begun s i)
+  unfolding readIn
+  read-unchanged i = checked-unchanged s _ (tried-unchanged _ s _ (settled-unchanged s s _ _))
 
-pub deliver-unchanged : (s : Network) (k i j : ℕ) → Unchanged s (delivered s k i j)
-unfolding deliverIn
-deliver-unchanged s k i j = checked-unchanged s _ (tried-unchanged _ s _ (settled-unchanged s _ _ _))
+  deliver-unchanged : (k i j : ℕ) → Same s (delivered s k i j)
+  unfolding deliverIn
+  deliver-unchanged k i j = checked-unchanged s _ (tried-unchanged _ s _ (settled-unchanged s _ _ _))
 
-pub lose-unchanged : (s : Network) (i : ℕ) → Unchanged s (lost s i)
-unfolding loseIn
-lose-unchanged s i = checked-unchanged s _ (tried-unchanged _ s _ (λ n. absurd (n code-nothing)))
+  lose-unchanged : (i : ℕ) → Same s (lost s i)
+  unfolding loseIn
+  lose-unchanged i = checked-unchanged s _ (tried-unchanged _ s _ (λ n. absurd (n code-nothing)))
 
 -- a drain, refused as a whole
 drain-keeps : (f : ℕ) (s₀ s : Network) (m : ℕ) → drainBy f s₀ s m .refusal ≢ 0 → drainBy f s₀ s m .network ≡ s₀
@@ -111,19 +111,38 @@ unfolding drained drainIn
 drain-unchanged s =
     ite-case (λ (d : Drained). d .refusal ≢ 0 → d .network ≡ s) _ _ _ (λ _. drain-keeps (suc (loadOf s)) s s 0) (λ _ _. refl)
 
--- ---- a panel's call with a lent area
+-- ---- a lent byte area
 
-pub record PanelUnchanged (p : Panel) (e : Event) (a : Area) : Type 0 where
-  pub panel : called p e a .outcome .panel ≡ p
-  pub count : called p e a .outcome .count ≡ 0
-  pub area : called p e a .area ≡ a
+message-unchanged : (k v : ℕ) (area : List ℕ) → wroteNumber (writing k v area .answer) ≢ 0 → writing k v area .area ≡ area
+unfolding wroteNumber
+message-unchanged k v area = by (writing k v area .answer) refl
+  where
+    by : (a : Put) → writing k v area .answer ≡ a → wroteNumber a ≢ 0 → writing k v area .area ≡ area
+    by (Used m) e n = absurd (n refl)
+    by (Refused m) e n = message.refused-untouched k v area m e
 
-pub panel-unchanged : (p : Panel) (e : Event) (a : Area) → refusal (p .tables) (roomOf a) e ≢ 0 → PanelUnchanged p e a
-unfolding called told
-panel-unchanged p e a n =
-    let none : messagesOf (happens (p .tables) (roomOf a) e .sends) ≡ [] = refused-messages (p .tables) (roomOf a) e n in
-    record {
-      panel = ap (λ (t : Tables). panelOf t) (refused-tables (p .tables) (roomOf a) e n);
-      count = ap length none;
-      area = ap (λ (ms : List Message). laidIn 0 ms a) none ∙ sym (further-none {l = record { count = 0; area = a }} .area-is);
-    }
+list-unchanged : (s area : List ℕ) → listing s area .answer .refusal ≢ 0 → listing s area .area ≡ area
+list-unchanged s area n = by (ltb (length area) longest) refl
+  where
+    by : (b : Bool) → ltb (length area) longest ≡ b → listing s area .area ≡ area
+    by true e = listed.refused-untouched s area (ltb-true _ _ e)
+    by false e = absurd (n (listed.accepted-iff s area .1 (ltb-false _ _ e)))
+
+-- ---- all calls
+
+pub unchanged : (c : Call) → answerOf c ≢ 0 → Unchanged c
+unfolding answerOf Unchanged called told
+unchanged (Call.set-up-panel n t writer i v) _ = tt
+unchanged (Call.event p e a) n = event-unchanged p e a (λ z. n (code-is (p .tables) (roomOf a) e ∙ z))
+unchanged (Call.event-bare p e) n = bare-unchanged p e (λ z. n (after-code p e ∙ z))
+unchanged (Call.set-up n t writer v) _ = tt
+unchanged (Call.write s v) n = write-unchanged s v n
+unchanged (Call.read s i) n = read-unchanged s i n
+unchanged (Call.deliver s k i j) n = deliver-unchanged s k i j n
+unchanged (Call.lose s i) n = lose-unchanged s i n
+unchanged (Call.search s) _ = tt
+unchanged (Call.write-message k v area) n = message-unchanged k v area n
+unchanged (Call.read-message s) _ = tt
+unchanged (Call.write-record r area) n = entry.refused-untouched r area (omega arith)
+unchanged (Call.read-record s at) _ = tt
+unchanged (Call.list s area) n = list-unchanged s area n

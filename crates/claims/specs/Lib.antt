@@ -1,2 +1,4 @@
 pub mod Shown
 pub mod Noted
+pub mod Tried
+pub mod Acts

@@ -38,11 +38,11 @@ pub(crate) fn with_operation(p: Tables, o: Operation) -> Tables
     }
 }
 
-pub(crate) fn value_of(p: Tables, x: u8) -> u32
-    requires { ⌜ x ≤ 200 ⌝ }
-    ensures { λ v. ⌜ v ≡ valueOf p x ⌝ }
+pub(crate) fn value_of(p: Tables, x: WriteNo) -> u32
+    requires { ⌜ x .0 ≤ 200 ⌝ }
+    ensures { λ v. ⌜ v ≡ valueOf p (x .0) ⌝ }
 {
-    let k = wide(x);
+    let k = wide(x.0);
     p.history[k]
 }
 
@@ -53,7 +53,7 @@ fn look_writing(p: Tables) -> Looked
 {
     let i = wide(p.number) - 1;
     let ws = p.w;
-    if tables::enough(p.n, p.t, tables::has_w(ws, p.n, ws[i].0)) {
+    if tables::enough(p.n, p.t, tables::has_w(ws, p.n, ws[i])) {
         Looked {
             tables: with_operation(p, Operation::Idle),
             answer: Answer::Wrote(ws[i]),
@@ -72,10 +72,10 @@ fn look_second(p: Tables, sn: WriteNo) -> Looked
     ensures { λ l. ⌜ l ≡ lookSecond p sn ⌝ }
 {
     let ws = p.w;
-    if tables::enough(p.n, p.t, tables::reaches_w(ws, p.n, sn.0)) {
+    if tables::enough(p.n, p.t, tables::reaches_w(ws, p.n, sn)) {
         Looked {
             tables: with_operation(p, Operation::Idle),
-            answer: Answer::Gave(sn, value_of(p, sn.0)),
+            answer: Answer::Gave(sn, value_of(p, sn)),
         }
     } else {
         Looked {
@@ -92,7 +92,7 @@ fn look_first(p: Tables) -> Looked
 {
     let i = wide(p.number) - 1;
     let rs = p.r;
-    if tables::enough(p.n, p.t, tables::has_r(rs, p.n, rs[i].0)) {
+    if tables::enough(p.n, p.t, tables::has_r(rs, p.n, rs[i])) {
         look_second(p, p.w[i])
     } else {
         Looked {

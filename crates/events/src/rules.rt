@@ -80,12 +80,12 @@ pub(crate) fn spread(p: Tables, v: u32) -> Cast
     ensures { λ c. ⌜ c ≡ spread p v ⌝ }
 {
     let i = wide(p.number) - 1;
-    let y = p.w[i].0;
+    let y = p.w[i];
     let mut ws = p.w;
-    ws[i] = WriteNo(y + 1);
+    ws[i] = WriteNo(y.0 + 1);
     Cast {
         to: tables::has_w(ws, p.n, y),
-        kind: (y + 1) % 2,
+        kind: (y.0 + 1) % 2,
         value: v,
     }
 }

@@ -27,12 +27,12 @@ use tables::WriteNo;
 use tables::wide;
 
 // line 18
-fn reached(p: Tables, k: usize, x: u8) -> Tables
+fn reached(p: Tables, k: usize, x: WriteNo) -> Tables
     requires { ⌜ k < 7 ⌝ }
-    ensures { λ q. ⌜ q ≡ reached p k x ⌝ }
+    ensures { λ q. ⌜ q ≡ reached p k (x .0) ⌝ }
 {
     let mut q = p;
-    q.w[k] = WriteNo(x);
+    q.w[k] = x;
     q
 }
 
@@ -48,16 +48,16 @@ fn take(p: Tables, k: usize, v: u32) -> Took
         let c = spread(p, v);
         let q = learned(p, v);
         return Took {
-            tables: reached(q, k, y + 1),
+            tables: reached(q, k, WriteNo(y + 1)),
             cast: c,
         };
     }
-    let q = reached(p, k, x + 1);
+    let q = reached(p, k, WriteNo(x + 1));
     if x + 1 < y {
         let c = Cast {
             to: tables::only_place(k),
             kind: (x + 2) % 2,
-            value: value_of(p, x + 2),
+            value: value_of(p, WriteNo(x + 2)),
         };
         return Took { tables: q, cast: c };
     }
@@ -106,7 +106,7 @@ fn take_rule(p: Tables, k: usize, v: u32) -> Ruled
     let s = b.tables;
     let held = b.cast;
     let l = s.lines[k];
-    let m = tables::leaving(l, s.w[k].0);
+    let m = tables::leaving(l, s.w[k]);
     Ruled {
         tables: with_line(s, k, tables::without(l, m)),
         sends: Sends {

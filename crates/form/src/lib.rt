@@ -53,67 +53,61 @@ pub fn is_panel(n: u8, j: u8) -> bool
 
 // One place: its numbers and those of the panel itself, its hold and its line; whether the place is past n, and the panel's own.
 fn place_with(
-    wj: u8,
-    wi: u8,
-    rj: u8,
-    ri: u8,
+    wj: WriteNo,
+    wi: WriteNo,
+    rj: ReadNo,
+    ri: ReadNo,
     h: Hold,
     l: Line,
     at_writer: bool,
     past: bool,
     own: bool,
 ) -> bool
-    ensures { λ r. ⌜ r ≡ placeWith wj wi rj ri h l «at_writer» past own ⌝ }
+    ensures { λ r. ⌜ r ≡ placeWith (wj .0) (wi .0) (rj .0) (ri .0) h l «at_writer» past own ⌝ }
 {
     let hold = tables::hold_ok(h, wj, wi, at_writer);
     let line = tables::line_ok(l, wj, wi);
     let quiet = tables::quiet_ok(h, l);
     let idle = choose(choose(past, true, own), quiet, true);
-    let zero = choose(past, both(wj == 0, rj == 0), true);
+    let zero = choose(past, both(wj.0 == 0, rj.0 == 0), true);
     both(
-        wj <= wi,
-        both(rj <= ri, both(hold, both(line, both(idle, zero)))),
+        wj.0 <= wi.0,
+        both(rj.0 <= ri.0, both(hold, both(line, both(idle, zero)))),
     )
 }
 
-fn place_ok(p: Tables, j: usize) -> bool
-    requires { ⌜ (j < 7) × Sized p ⌝ }
-    ensures { λ r. ⌜ r ≡ placeOk p j ⌝ }
-{
-    let i = wide(p.number) - 1;
-    let wj = p.w[j].0;
-    let wi = p.w[i].0;
-    let rj = p.r[j].0;
-    let ri = p.r[i].0;
-    let h = p.held[j];
-    let l = p.lines[j];
-    let past = wide(p.n) <= j;
-    let own = j + 1 == wide(p.number);
-    place_with(wj, wi, rj, ri, h, l, p.number == p.writer, past, own)
-}
-
+// The parts of a place are taken out before they are handed on: a call takes its tables by value, and that is a copy.
 fn places_ok(p: Tables) -> bool
     requires { ⌜ Sized p ⌝ }
     ensures { λ r. ⌜ r ≡ allBelow 7 (placeOk p) ⌝ }
 {
+    let end = wide(p.n);
+    let number = wide(p.number);
+    let wi = p.w[number - 1];
+    let ri = p.r[number - 1];
+    let at_writer = p.number == p.writer;
     let mut ok = true;
     let mut j = 0;
     while j < 7 {
-        let e = place_ok(p, j);
+        let wj = p.w[j];
+        let rj = p.r[j];
+        let h = p.held[j];
+        let l = p.lines[j];
+        let e = place_with(wj, wi, rj, ri, h, l, at_writer, end <= j, j + 1 == number);
         ok = both(ok, e);
         j += 1;
     }
     ok
 }
 
-fn operation_ok(o: Operation, at_writer: bool, x: u8, y: u8) -> bool
-    ensures { λ r. ⌜ r ≡ operationOk o «at_writer» x y ⌝ }
+fn operation_ok(o: Operation, at_writer: bool, x: WriteNo, y: ReadNo) -> bool
+    ensures { λ r. ⌜ r ≡ operationOk o «at_writer» (x .0) (y .0) ⌝ }
 {
     match o {
         Operation::Idle => true,
-        Operation::Writing => both(at_writer, 1 <= x),
-        Operation::FirstWait => 1 <= y,
-        Operation::SecondWait(sn) => both(1 <= y, sn.0 <= x),
+        Operation::Writing => both(at_writer, 1 <= x.0),
+        Operation::FirstWait => 1 <= y.0,
+        Operation::SecondWait(sn) => both(1 <= y.0, sn.0 <= x.0),
     }
 }
 
@@ -127,16 +121,16 @@ pub fn in_form(p: Tables) -> bool
         return false;
     }
     let i = wide(p.number) - 1;
-    let wi = p.w[i].0;
-    let ri = p.r[i].0;
+    let wi = p.w[i];
+    let ri = p.r[i];
     let h = p.history;
     let o = p.operation;
     let places = places_ok(p);
     let history = tables::history_ok(h, wi);
     let operation = operation_ok(o, p.number == p.writer, wi, ri);
     both(
-        wi <= 200,
-        both(ri <= 100, both(places, both(history, operation))),
+        wi.0 <= 200,
+        both(ri.0 <= 100, both(places, both(history, operation))),
     )
 }
 

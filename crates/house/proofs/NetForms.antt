@@ -2,7 +2,7 @@
 -- enough.
 -- Assumes nothing.
 use mathlib.Core.Path.{_≡_, sym, ap, subst, _∙_}
-use mathlib.Core.Bool.{Bool, true, false, not}
+use mathlib.Core.Bool.{Bool, true, false, not, Bool·not-not}
 use Prim.Native.Nat.{ℕ, _+_, _≤_, _<_}
 use native.Mathlib.Nat.{le-trans}
 use native.Mathlib.Omega.{arith}
@@ -16,7 +16,6 @@ use Rattle.tables.specs.Marks.{among, enough}
 use Rattle.tables.proofs.Counting.{count-more}
 use Rattle.tables.proofs.Quorum.{all-but-t}
 use Rattle.form.specs.declared.Tables.{Tables}
-use Rattle.form.specs.Form.{fits}
 use Rattle.form.proofs.InForm as form
 use Rattle.unused.specs.Unused.{unused}
 use Rattle.events.specs.Rules.{valueOf}
@@ -124,9 +123,6 @@ module _ (s : Network) (f : Formed s) where
   pub sizes : form.Fits (nOf s) (tOf s) (writerOf s)
   sizes = f .member 0 (f .n-low) .in-form .sizes
 
-  pub sizes-fit : fits (nOf s) (tOf s) (writerOf s) ≡ true
-  sizes-fit = form.fits-of _ _ _ sizes
-
   pub writer-low : 1 ≤ writerOf s
   writer-low = sizes .writer-low
 
@@ -145,8 +141,4 @@ module _ (s : Network) (f : Formed s) where
   unfolding among downsIn live
   live-enough =
       all-but-t (nOf s) (tOf s) (f .n-high) (live s)
-      (le-trans (count-more 7 (among (nOf s) (λ (j : ℕ). not (live s j))) (downAt s) (λ k l e. twice (downAt s k) (both-right _ _ e))) few-down)
-    where
-      twice : (b : Bool) → not (not b) ≡ true → b ≡ true
-      twice true e = e
-      twice false e = e
+      (le-trans (count-more 7 (among (nOf s) (λ (j : ℕ). not (live s j))) (downAt s) (λ k l e. sym (Bool·not-not (downAt s k)) ∙ both-right _ _ e)) few-down)

@@ -1,16 +1,15 @@
--- What stands at a place of a network after a store: at the place itself, at another place (-ne), and in the other tables (-kept);
--- that a store keeps the tables' lengths; and how many are down after one more is.
+-- What stands at a place of a network after a store: at the place itself and at another place (-ne); that a store keeps the
+-- tables' lengths; and how many are down after one more is.
 -- Assumes nothing.
 use mathlib.Core.Path.{_≡_, refl, sym, ap, subst, _∙_}
 use mathlib.Core.Bool.{Bool, true, false}
-use mathlib.Core.List.{List}
 use mathlib.Core.Logic.{_≢_}
 use Prim.Native.Nat.{ℕ, zero, suc, _+_, _≤_, _<_}
 use native.Mathlib.Decide.{ℕ-discrete}
 use native.Mathlib.Nat.{not-suc-le-zero}
 use native.Mathlib.Omega.{arith}
 use lib.ListN.{length, getD, length-set, List·getD-eq-default}
-use lib.Seq.{getD-set-same, getD-set-other, set-out}
+use lib.Seq.{getD-set-same, getD-set-other}
 use Rattle.basics.specs.Below.{oneIf, countBelow}
 use Rattle.basics.proofs.Below.{count-alike}
 use Rattle.form.proofs.Shape.{Shaped}
@@ -22,23 +21,11 @@ use Rattle.house.specs.Places.{nobody, panelAt, tablesAt, rowAt, downAt,
 use Rattle.house.specs.NetForm.{downsIn, downs}
 use Rattle.house.specs.Whole.{Whole}
 
--- ---- past the last place nothing stands and nothing is put
+-- ---- past the last place nothing stands
 
 module _ (s : Network) (i : ℕ) (h : 7 ≤ i) where
   pub channel-past : length (s .rows) ≡ 7 → (j : ℕ) → channelOf s i j ≡ noChannel
   channel-past long j = ap (λ (r : Row). getD (r .to) j noChannel) (List·getD-eq-default (s .rows) noRow (omega arith))
-
-  pub down-past : length (s .down) ≡ 7 → downAt s i ≡ false
-  down-past long = List·getD-eq-default (s .down) false (omega arith)
-
-  pub with-panel-past : length (s .panels) ≡ 7 → (p : Panel) → withPanel s i p ≡ s
-  with-panel-past long p = ap (λ (l : List Panel). record { panels = l; rows = s .rows; down = s .down }) (set-out (s .panels) i p (omega arith))
-
-  pub with-row-past : length (s .rows) ≡ 7 → (r : Row) → withRow s i r ≡ s
-  with-row-past long r = ap (λ (l : List Row). record { panels = s .panels; rows = l; down = s .down }) (set-out (s .rows) i r (omega arith))
-
-  pub with-down-past : length (s .down) ≡ 7 → withDown s i ≡ s
-  with-down-past long = ap (λ (l : List Bool). record { panels = s .panels; rows = s .rows; down = l }) (set-out (s .down) i true (omega arith))
 
 -- ---- at the place itself
 
@@ -52,7 +39,7 @@ module _ (s : Network) (whole : Whole s) (i : ℕ) (h : i < 7) where
   pub down-with-down : downAt (withDown s i) i ≡ true
   down-with-down = getD-set-same (s .down) i true false (omega (arith, whole .down-long))
 
--- ---- at another place, and in the other tables
+-- ---- at another place
 
 module _ (s : Network) (i j : ℕ) where
   pub panel-with-panel-ne : (p : Panel) → j ≢ i → panelAt (withPanel s i p) j ≡ panelAt s j
@@ -63,24 +50,6 @@ module _ (s : Network) (i j : ℕ) where
 
   pub down-with-down-ne : j ≢ i → downAt (withDown s i) j ≡ downAt s j
   down-with-down-ne d = getD-set-other (s .down) i j true false d
-
-  pub row-with-panel-kept : (p : Panel) → rowAt (withPanel s i p) j ≡ rowAt s j
-  row-with-panel-kept p = refl
-
-  pub down-with-panel-kept : (p : Panel) → downAt (withPanel s i p) j ≡ downAt s j
-  down-with-panel-kept p = refl
-
-  pub panel-with-row-kept : (r : Row) → panelAt (withRow s i r) j ≡ panelAt s j
-  panel-with-row-kept r = refl
-
-  pub down-with-row-kept : (r : Row) → downAt (withRow s i r) j ≡ downAt s j
-  down-with-row-kept r = refl
-
-  pub panel-with-down-kept : panelAt (withDown s i) j ≡ panelAt s j
-  panel-with-down-kept = refl
-
-  pub row-with-down-kept : rowAt (withDown s i) j ≡ rowAt s j
-  row-with-down-kept = refl
 
 -- ---- the tables keep their lengths
 

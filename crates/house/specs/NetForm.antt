@@ -35,11 +35,11 @@ memberWith p n t writer initial number =
     (both (eqb (p .n) n) (both (eqb (p .t) t) (both (eqb (p .writer) writer) (both (eqb (valueOf p 0) initial) (eqb (p .number) number)))))
 
 -- at each place one of the n panels, or nothing
+abbrev pub placeWith : Tables → Bool → ℕ → ℕ → ℕ → ℕ → ℕ → Bool
+placeWith p down n t writer initial i = ite (ltb i n) (memberWith p n t writer initial (i + 1)) (both (unused p) (not down))
+
 unfoldable pub placeOk : Network → ℕ → Bool
-placeOk s i =
-    ite (ltb i (nOf s))
-    (memberWith (tablesAt s i) (nOf s) (tOf s) (writerOf s) (initialOf s) (i + 1))
-    (both (unused (tablesAt s i)) (not (downAt s i)))
+placeOk s i = placeWith (tablesAt s i) (downAt s i) (nOf s) (tOf s) (writerOf s) (initialOf s) i
 
 unfoldable pub channelsOk : Network → ℕ → Bool
 channelsOk s i = rowOk (rowAt s i) (nOf s) i

@@ -9,7 +9,7 @@ ghost use Rattle.basics.specs.Below.{allBelow, oneIf};
 ghost use Rattle.form.proofs.Shape.{Shaped};
 ghost use Rattle.unused.specs.Unused.{unused};
 ghost use Rattle.house.specs.Places.{rowAt, tablesAt};
-ghost use Rattle.house.specs.NetForm.{memberWith, placeOk, channelsOk, downsIn, mayBeDown, netForm};
+ghost use Rattle.house.specs.NetForm.{memberWith, placeWith, placeOk, channelsOk, downsIn, mayBeDown, netForm};
 ghost use Rattle.house.specs.Search.{flying, firstIn};
 ghost use Rattle.house.specs.Whole.{Whole};
 use channels::Row;
@@ -63,26 +63,29 @@ fn nothing_at(p: Panel, down: bool) -> bool
     both(unused::unused(q), !down)
 }
 
-fn place_ok(s: Network, i: usize) -> bool
+// What stands at place i of a network of n panels.
+fn place_ok(p: Panel, down: bool, n: u8, t: u8, writer: u8, initial: u32, i: usize) -> bool
     requires { ⌜ i < 7 ⌝ }
-    ensures { λ r. ⌜ r ≡ placeOk s i ⌝ }
+    ensures { λ r. ⌜ r ≡ placeWith (p .tables) down n t writer initial i ⌝ }
 {
-    let first = s.panels[0];
-    let f = first.tables;
-    let p = s.panels[i];
-    if i < wide(f.n) {
-        return member_ok(p, f.n, f.t, f.writer, f.history[0], (i + 1) as u8);
+    if i < wide(n) {
+        return member_ok(p, n, t, writer, initial, (i + 1) as u8);
     }
-    nothing_at(p, s.down[i])
+    nothing_at(p, down)
 }
 
 fn places_ok(s: Network) -> bool
     ensures { λ r. ⌜ r ≡ allBelow 7 (placeOk s) ⌝ }
 {
+    let first = s.panels[0];
+    let f = first.tables;
+    let initial = f.history[0];
     let mut ok = true;
     let mut i = 0;
     while i < 7 {
-        ok = both(ok, place_ok(s, i));
+        let p = s.panels[i];
+        let e = place_ok(p, s.down[i], f.n, f.t, f.writer, initial, i);
+        ok = both(ok, e);
         i += 1;
     }
     ok

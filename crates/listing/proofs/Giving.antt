@@ -9,11 +9,11 @@ use native.Mathlib.Decide.{ℕ-discrete}
 use native.Mathlib.Nat.{zero-add}
 use native.Mathlib.Numerals.{add-one}
 use native.Mathlib.Omega.{arith}
-use lib.Dec.{ltb}
+use lib.Dec.{ltb, eqb}
 use lib.ListN.{length}
-use borrow.Author.Tests.{ltb-true, ltb-false, eq-eqb, ne-eqb}
+use borrow.Author.Tests.{ltb-true, ltb-false, eqb-true, eq-eqb, ne-eqb}
 use Rattle.basics.specs.Choice.{ite}
-use Rattle.basics.proofs.Choices.{ite-true, ite-false, clash}
+use Rattle.basics.proofs.Choices.{ite-true, ite-false, ite-case, ite-two, clash}
 use Rattle.schedule.specs.declared.Record.{Record}
 use Rattle.schedule.specs.declared.Read.{Read}
 use Rattle.schedule.specs.Records.{reading}
@@ -119,10 +119,6 @@ module _ (bytes : List ℕ) (s : Network) (h : Holds s) (at count : ℕ) where
         ap (drainLeft bytes s at count) drained-on
         ∙ ap₂ (λ (ls : List Line) (k : ℕ). ls ++ (entry drain 0 100 k ∷ later (d .network) (readsAt bytes at))) (one-delivery (d .count)) (counted (d .count))
 
-    step-on : drainStep s (firstIn s) at count ≡ drains (nextStep s .network) given at (count + 1)
-    unfolding drainStep nextStep
-    step-on = ite-true _ _ any
-
   -- nothing to deliver: the drain's own line
   module _ (none : firstIn s .any ≡ false) where
     left-none : drainLeft bytes s at count (drained s) ≡ entry drain 0 100 count ∷ later s (readsAt bytes at)
@@ -131,16 +127,13 @@ module _ (bytes : List ℕ) (s : Network) (h : Holds s) (at count : ℕ) where
         ap (drainLeft bytes s at count) (drained-none s (h .good) none)
         ∙ ap (λ (k : ℕ). entry drain 0 100 k ∷ later s (readsAt bytes at)) (omega arith)
 
-    step-none : drainStep s (firstIn s) at count ≡ goesOn s (entry drain 0 100 count) at
-    unfolding drainStep
-    step-none = ite-false _ _ none
-
   pub drain-gives : Gives bytes (drainLeft bytes s at count (drained s)) (drainLine s at count)
-  drain-gives = by (firstIn s .any) refl
-    where
-      by : (b : Bool) → firstIn s .any ≡ b → Gives bytes (drainLeft bytes s at count (drained s)) (drainLine s at count)
-      by true e = named (line-is ∙ step-on e) (left-on e) (drains-gives bytes (nextStep s .network) given at (count + 1) next-holds)
-      by false e = named (line-is ∙ step-none e) (left-none e) (on-gives bytes s (entry drain 0 100 count) at h)
+  unfolding drainStep nextStep
+  drain-gives =
+      named line-is refl
+      (ite-case (Gives bytes (drainLeft bytes s at count (drained s))) (firstIn s .any) _ _
+      (λ e. named refl (left-on e) (drains-gives bytes (nextStep s .network) given at (count + 1) next-holds))
+      (λ e. named refl (left-none e) (on-gives bytes s (entry drain 0 100 count) at h)))
 
 -- ---- the next record
 
@@ -200,28 +193,15 @@ module _ (bytes : List ℕ) (s : Network) (h : Holds s) (at : ℕ) (there : at <
 
 pub next-gives : (bytes : List ℕ) (b : Bench) → (b .ended ≡ false → Holds (b .network)) → Gives bytes (behind bytes b) (nextLine bytes b)
 unfolding behind nextLine later
-next-gives bytes b holds = by-end (b .ended) refl
+next-gives bytes b holds =
+    ite-two (Gives bytes) (b .ended) _ _ _ _ (λ _. silent-gives bytes s)
+    (λ e. ite-two (Gives bytes) (b .draining) _ _ _ _ (λ _. drain-gives bytes s (holds e) (b .at) (b .count))
+    (λ _. ite-case (Gives bytes (later s (readsAt bytes (b .at)))) (ltb (b .at) (length bytes)) _ _
+    (λ l. record-gives bytes s (holds e) (b .at) (ltb-true _ _ l))
+    (λ l. named refl (ap (later s) (reads-end bytes (b .at) (ltb-false _ _ l))) (silent-gives bytes s))))
   where
     s : Network
     s = b .network
-
-    by-place : b .ended ≡ false → (x : Bool) → b .draining ≡ false → ltb (b .at) (length bytes) ≡ x → Gives bytes (behind bytes b) (nextLine bytes b)
-    by-place e true d l =
-        named (ite-false _ _ e ∙ ite-false _ _ d ∙ ite-true _ _ l) (ite-false _ _ e ∙ ite-false _ _ d)
-        (record-gives bytes s (holds e) (b .at) (ltb-true _ _ l))
-    by-place e false d l =
-        named (ite-false _ _ e ∙ ite-false _ _ d ∙ ite-false _ _ l)
-        (ite-false _ _ e ∙ ite-false _ _ d ∙ ap (later s) (reads-end bytes (b .at) (ltb-false _ _ l)))
-        (silent-gives bytes s)
-
-    by-drain : b .ended ≡ false → (x : Bool) → b .draining ≡ x → Gives bytes (behind bytes b) (nextLine bytes b)
-    by-drain e true d =
-        named (ite-false _ _ e ∙ ite-true _ _ d) (ite-false _ _ e ∙ ite-true _ _ d) (drain-gives bytes s (holds e) (b .at) (b .count))
-    by-drain e false d = by-place e (ltb (b .at) (length bytes)) d refl
-
-    by-end : (x : Bool) → b .ended ≡ x → Gives bytes (behind bytes b) (nextLine bytes b)
-    by-end true e = named (ite-true _ _ e) (ite-true _ _ e) (silent-gives bytes s)
-    by-end false e = by-drain e (b .draining) refl
 
 -- ---- the first
 
@@ -237,27 +217,15 @@ module _ (bytes : List ℕ) where
 
   first-gives : (qs : List Read) → (q₀ .refusal ≡ 0 → qs ≡ readsAt bytes (q₀ .used)) → Gives bytes (all (q₀ ∷ qs)) (firstRecord q₀ made)
   unfolding all first firstRecord
-  first-gives qs same = by (ℕ-discrete (q₀ .refusal) 0) (ℕ-discrete (r₀ .kind) 0) (ℕ-discrete (made .refusal) 0)
-    where
-      by : Dec (q₀ .refusal ≡ 0) → Dec (r₀ .kind ≡ 0) → Dec (made .refusal ≡ 0) → Gives bytes (all (q₀ ∷ qs)) (firstRecord q₀ made)
-      by (no bad) k m = let e = ne-eqb _ _ bad in named (ite-false _ _ e) (ite-false _ _ e) (stops-gives bytes _ (unread q₀))
-      by (yes ok) (no other) m =
-          let e = eq-eqb _ _ ok in
-          let f = ne-eqb _ _ other in
-          named (ite-true _ _ e ∙ ite-false _ _ f) (ite-true _ _ e ∙ ite-false _ _ f) (stops-gives bytes _ (entry r₀ 17 0 0))
-      by (yes ok) (yes k) (no bad) =
-          let e = eq-eqb _ _ ok in
-          let f = eq-eqb _ _ k in
-          let g = ne-eqb _ _ bad in
-          named (ite-true _ _ e ∙ ite-true _ _ f ∙ ite-false _ _ g) (ite-true _ _ e ∙ ite-true _ _ f ∙ ite-false _ _ g)
-          (stops-gives bytes _ (entry r₀ (made .refusal) 0 0))
-      by (yes ok) (yes k) (yes z) =
-          let e = eq-eqb _ _ ok in
-          let f = eq-eqb _ _ k in
-          let g = eq-eqb _ _ z in
-          named (ite-true _ _ e ∙ ite-true _ _ f ∙ ite-true _ _ g)
-          (ite-true _ _ e ∙ ite-true _ _ f ∙ ite-true _ _ g ∙ ap (λ (l : List Read). entry r₀ 0 0 0 ∷ later (made .network) l) (same ok))
-          (on-gives bytes (made .network) (entry r₀ 0 0 0) (q₀ .used) (set-up-holds (r₀ .a) (r₀ .b) (r₀ .c) (r₀ .value) z))
+  first-gives qs same =
+      ite-two (Gives bytes) (eqb (q₀ .refusal) 0) _ _ _ _
+      (λ ok. ite-two (Gives bytes) (eqb (r₀ .kind) 0) _ _ _ _
+      (λ _. ite-two (Gives bytes) (eqb (made .refusal) 0) _ _ _ _
+      (λ z. named refl (ap (λ (l : List Read). entry r₀ 0 0 0 ∷ later (made .network) l) (same (eqb-true _ _ ok)))
+      (on-gives bytes (made .network) (entry r₀ 0 0 0) (q₀ .used) (set-up-holds (r₀ .a) (r₀ .b) (r₀ .c) (r₀ .value) (eqb-true _ _ z))))
+      (λ _. stops-gives bytes _ (entry r₀ (made .refusal) 0 0)))
+      (λ _. stops-gives bytes _ (entry r₀ 17 0 0)))
+      (λ _. stops-gives bytes _ (unread q₀))
 
   pub opened-gives : Gives bytes (all (readsOf bytes)) (opened bytes)
   unfolding readsOf opened all

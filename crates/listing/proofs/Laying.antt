@@ -1,13 +1,13 @@
 -- What is put into an area: bytes one behind the other, the first line, and a line of at most 34 bytes.
 -- Assumes nothing.
 use mathlib.Core.Path.{_≡_, sym, ap, subst, _∙_}
-use mathlib.Core.List.{List, [], _∷_, _++_}
-use Prim.Native.Nat.{ℕ, suc, _+_, _^_, _≤_, _<_}
-use native.Mathlib.Nat.{add-zero, add-suc, suc-add}
+use mathlib.Core.List.{List, [], _∷_}
+use Prim.Native.Nat.{ℕ, _+_, _^_, _≤_, _<_}
 use native.Mathlib.Numerals.{add-one}
 use native.Mathlib.Omega.{arith}
 use lib.ListN.{length, getD, set, take, length-take}
 use lib.Seq.{sets, length-sets, take-suc, take-all}
+use Rattle.basics.proofs.Lists.{sets-append}
 use Rattle.text.specs.declared.Line.{Line}
 use Rattle.text.specs.declared.Text.{Text}
 use Rattle.text.specs.Text.{firstLine, lineText, textOf}
@@ -17,12 +17,6 @@ use Rattle.listing.specs.Listing.{numberedAs}
 use Rattle.listing.specs.Putting.{Put}
 
 -- ---- bytes one behind the other
-
-pub sets-append : (a b l : List ℕ) (i : ℕ) → sets l i (a ++ b) ≡ sets (sets l i a) (i + length a) b
-sets-append [] b l i = ap (λ (k : ℕ). sets l k b) (sym (add-zero i))
-sets-append (x ∷ a) b l i =
-    sets-append a b (set l i x) (suc i)
-    ∙ ap (λ (k : ℕ). sets (sets (set l i x) (suc i) a) k b) (suc-add i (length a) ∙ sym (add-suc i (length a)))
 
 -- one byte more
 byte-laid : (bs l : List ℕ) (at i : ℕ) → i < length bs → set (sets l at (take i bs)) (at + i) (getD bs i 0) ≡ sets l at (take (i + 1) bs)

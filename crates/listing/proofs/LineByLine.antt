@@ -10,6 +10,7 @@ use lib.Dec.{ltb}
 use lib.ListN.{length, length-append}
 use lib.Seq.{sets}
 use Rattle.basics.proofs.Choices.{ite-true, ite-false, ite-case}
+use Rattle.basics.proofs.Lists.{sets-append}
 use Rattle.text.specs.declared.Line.{Line}
 use Rattle.text.specs.Text.{firstLine, lineText}
 use Rattle.steps.specs.Search.{sought}
@@ -21,7 +22,6 @@ use Rattle.listing.specs.Putting.{Put}
 use Rattle.listing.specs.Machine.{Bench, drainStep, drainLine, recordLine, nextLine, firstRecord, opened}
 use Rattle.listing.proofs.Counting.{lines-most}
 use Rattle.listing.proofs.Giving.{behind, left, Gives, next-gives, opened-gives}
-use Rattle.listing.proofs.Laying.{sets-append}
 
 -- how many deliveries are listed grows by one at most
 counted-next : (bytes : List ℕ) (b : Bench) → nextLine bytes b .count ≤ b .count + 1

@@ -23,7 +23,6 @@ use Rattle.steps.proofs.AtStart.{set-up-network, set-up-fits}
 use Rattle.runs.specs.Runs.{Step, did, does}
 use Rattle.runs.specs.Runs.Step.{write, read, deliver, lose}
 use Rattle.runs.proofs.Holding.{Holds, Went}
-use Rattle.runs.proofs.Draining.{drain-went}
 use Rattle.runs.proofs.Running.{step-fares}
 use Rattle.runs.proofs.FromFresh.{start-holds}
 use Rattle.listing.specs.Entries.{entry, told, drainEntries, stepped, entries, next}
@@ -80,9 +79,6 @@ module _ (s : Network) (h : Holds s) where
   pub delivered-keeps : (k i j : ℕ) → Keeps s (delivered s k i j .network)
   unfolding does did
   delivered-keeps k i j = does-keeps (deliver k i j)
-
-  pub drained-keeps : Keeps s (drained s .network)
-  drained-keeps = went-keeps (drain-went s h)
 
 -- what set-up makes, where it is not refused
 pub set-up-holds : (n t writer v : ℕ) → setUp n t writer v .refusal ≡ 0 → Holds (setUp n t writer v .network)

@@ -1,20 +1,19 @@
 -- The turns are the bench's: the step of a turn made in the network, the turn gives the bench's next line.
 -- Assumes nothing.
-use mathlib.Core.Path.{_≡_, refl, sym, ap, ap₂, subst, _∙_}
+use mathlib.Core.Path.{_≡_, refl, sym, ap, ap₂, _∙_}
 use mathlib.Core.Bool.{Bool, true, false}
 use mathlib.Core.List.{List}
 use mathlib.Core.Logic.{_≢_}
-use Prim.Native.Nat.{ℕ, _+_, _-_, _≤_, _<_}
+use Prim.Native.Nat.{ℕ, _+_}
 use native.Mathlib.Decide.{ℕ-discrete}
-use lib.Dec.{ltb}
+use lib.Dec.{ltb, eqb}
 use lib.ListN.{length}
 use borrow.Author.Tests.{eq-eqb, ne-eqb}
 use Rattle.basics.specs.Choice.{ite}
-use Rattle.basics.proofs.Choices.{ite-true, ite-false, ite-case}
+use Rattle.basics.proofs.Choices.{ite-true, ite-two}
 use Rattle.schedule.specs.declared.Record.{Record}
 use Rattle.schedule.specs.declared.Read.{Read}
 use Rattle.schedule.specs.Records.{reading}
-use Rattle.text.specs.declared.Line.{Line}
 use Rattle.events.specs.declared.Answer.the-variants.{Nothing}
 use Rattle.house.specs.declared.Network.{Network}
 use Rattle.house.specs.declared.Found.{Found}
@@ -34,17 +33,14 @@ use Rattle.parts.specs.Steps.{partsAt, putBack, stepIn}
 use Rattle.parts.proofs.Back.{back, moved-back, still-back}
 use Rattle.listing.specs.declared.Stand.{Stand}
 use Rattle.listing.specs.declared.Turn.{Turn}
-use Rattle.listing.specs.Entries.{entry, unread, told, deliveryOf, drain, stepped}
+use Rattle.listing.specs.Entries.{entry, unread, told, drain, stepped}
 use Rattle.listing.specs.Machine.{Bench, noLine, drainStep, drainLine, recordLine, nextLine}
-use Rattle.listing.specs.Turning.{benchAt, noMore, lastLine, onward, midDrain, withLine, noStep, quiet, steps, deliveryStep, stepOf, drainTurn, recordTurn, nextTurn, afterTurn}
+use Rattle.listing.specs.Turning.{benchAt, noMore, lastLine, onward, midDrain, withLine, quiet, steps, deliveryStep, stepOf, drainTurn, recordTurn, nextTurn, afterTurn}
 
 module _ (s : Network) where
   -- turn t gives the bench c
   abbrev Turned : Turn → Bench → Type 0
   Turned t c = benchAt (stepIn s (t .step) .network) (afterTurn t (stepIn s (t .step) .answer)) ≡ c
-
-  named : {t u : Turn} {c d : Bench} → t ≡ u → c ≡ d → Turned u d → Turned t c
-  named {c = c} {d} e f h = subst (λ (x : Turn). Turned x c) (sym e) (h ∙ sym f)
 
   quiet-turned : (b : Stand) → Turned (quiet b) (benchAt s b)
   unfolding stepIn afterTurn ite
@@ -57,9 +53,9 @@ module _ (s : Network) where
   -- ---- in a network that the laws speak of
 
   module _ (g : Good s) where
-    step-is : (r : Record) → r .kind ≢ 0 → stepIn s (stepOf r) ≡ stepped s r
+    step-is : (r : Record) → stepIn s (stepOf r) ≡ stepped s r
     unfolding stepOf stepped stepIn ite
-    step-is r z = write-case (ℕ-discrete (r .kind) 1)
+    step-is r = write-case (ℕ-discrete (r .kind) 1)
       where
         loss-case : r .kind ≢ 1 → r .kind ≢ 2 → Dec (r .kind ≡ 7) → stepIn s (stepOf r) ≡ stepped s r
         loss-case a b (yes c) = simp (ne-eqb _ _ a, ne-eqb _ _ b, eq-eqb _ _ c) (sym (checked-in-form s _ (good-test s g)))
@@ -79,44 +75,20 @@ module _ (s : Network) where
 
     drain-turned : (at count : ℕ) → Turned (drainTurn (firstIn s) at count) (drainLine s at count)
     unfolding drainLine drainStep drainTurn
-    drain-turned at count = by (firstIn s .any) refl
-      where
-        line-is : drainLine s at count ≡ drainStep s (firstIn s) at count
-        line-is = ap (λ (x : Sought). drainStep s (x .found) at count) (sought-is s g)
-
-        by : (x : Bool) → firstIn s .any ≡ x → Turned (drainTurn (firstIn s) at count) (drainLine s at count)
-        by true e = named (ite-true _ _ e) (line-is ∙ ite-true _ _ e) (steps-turned _ _ (midDrain noLine at (count + 1)) (delivery-is _ _ _))
-        by false e = named (ite-false _ _ e) (line-is ∙ ite-false _ _ e) (quiet-turned (onward (entry drain 0 100 count) at))
+    drain-turned at count =
+        ite-two Turned (firstIn s .any) _ _ _ _
+        (λ _. steps-turned _ _ (midDrain noLine at (count + 1)) (delivery-is _ _ _))
+        (λ _. quiet-turned (onward (entry drain 0 100 count) at))
+        ∙ sym (ap (λ (x : Sought). drainStep s (x .found) at count) (sought-is s g))
 
     record-turned : (q : Read) (at : ℕ) → Turned (recordTurn (firstIn s) q at) (recordLine s q at)
     unfolding recordTurn recordLine
-    record-turned q at = read-case (ℕ-discrete (q .refusal) 0)
-      where
-        drain-case : q .refusal ≡ 0 → q .«record» .kind ≢ 0 → Dec (q .«record» .kind ≡ 8) → Turned (recordTurn (firstIn s) q at) (recordLine s q at)
-        drain-case ok z (yes k) =
-            let a = eq-eqb _ _ ok in
-            let b = ne-eqb _ _ z in
-            let c = eq-eqb _ _ k in
-            named (ite-true _ _ a ∙ ite-false _ _ b ∙ ite-true _ _ c) (ite-true _ _ a ∙ ite-false _ _ b ∙ ite-true _ _ c) (drain-turned at 0)
-        drain-case ok z (no k) =
-            let a = eq-eqb _ _ ok in
-            let b = ne-eqb _ _ z in
-            let c = ne-eqb _ _ k in
-            named (ite-true _ _ a ∙ ite-false _ _ b ∙ ite-false _ _ c) (ite-true _ _ a ∙ ite-false _ _ b ∙ ite-false _ _ c)
-            (steps-turned _ _ (onward noLine at) (step-is (q .«record») z))
-
-        set-up-case : q .refusal ≡ 0 → Dec (q .«record» .kind ≡ 0) → Turned (recordTurn (firstIn s) q at) (recordLine s q at)
-        set-up-case ok (yes z) =
-            let a = eq-eqb _ _ ok in
-            let b = eq-eqb _ _ z in
-            named (ite-true _ _ a ∙ ite-true _ _ b) (ite-true _ _ a ∙ ite-true _ _ b) (quiet-turned (onward (entry (q .«record») 17 0 0) at))
-        set-up-case ok (no z) = drain-case ok z (ℕ-discrete (q .«record» .kind) 8)
-
-        read-case : Dec (q .refusal ≡ 0) → Turned (recordTurn (firstIn s) q at) (recordLine s q at)
-        read-case (yes ok) = set-up-case ok (ℕ-discrete (q .«record» .kind) 0)
-        read-case (no bad) =
-            let a = ne-eqb _ _ bad in
-            named (ite-false _ _ a) (ite-false _ _ a) (quiet-turned (lastLine (unread q)))
+    record-turned q at =
+        ite-two Turned (eqb (q .refusal) 0) _ _ _ _
+        (λ _. ite-two Turned (eqb (q .«record» .kind) 0) _ _ _ _ (λ _. quiet-turned (onward (entry (q .«record») 17 0 0) at))
+        (λ _. ite-two Turned (eqb (q .«record» .kind) 8) _ _ _ _ (λ _. drain-turned at 0)
+        (λ _. steps-turned _ _ (onward noLine at) (step-is (q .«record»)))))
+        (λ _. quiet-turned (lastLine (unread q)))
 
 -- ---- the next turn
 
@@ -126,23 +98,12 @@ module _ (bytes : List ℕ) (s : Network) (b : Stand) (good : b .ended ≡ false
 
   next-turned : Turned s next (nextLine bytes (benchAt s b))
   unfolding nextTurn nextLine
-  next-turned = end-case (b .ended) refl
-    where
-      place-case : b .ended ≡ false → b .draining ≡ false → (x : Bool) → ltb (b .at) (length bytes) ≡ x → Turned s next (nextLine bytes (benchAt s b))
-      place-case e d true l =
-          named s (ite-false _ _ e ∙ ite-false _ _ d ∙ ite-true _ _ l) (ite-false _ _ e ∙ ite-false _ _ d ∙ ite-true _ _ l)
-          (record-turned s (good e) (reading bytes (b .at)) (b .at + reading bytes (b .at) .used))
-      place-case e d false l =
-          named s (ite-false _ _ e ∙ ite-false _ _ d ∙ ite-false _ _ l) (ite-false _ _ e ∙ ite-false _ _ d ∙ ite-false _ _ l) (quiet-turned s noMore)
-
-      drain-case : b .ended ≡ false → (x : Bool) → b .draining ≡ x → Turned s next (nextLine bytes (benchAt s b))
-      drain-case e true d =
-          named s (ite-false _ _ e ∙ ite-true _ _ d) (ite-false _ _ e ∙ ite-true _ _ d) (drain-turned s (good e) (b .at) (b .count))
-      drain-case e false d = place-case e d (ltb (b .at) (length bytes)) refl
-
-      end-case : (x : Bool) → b .ended ≡ x → Turned s next (nextLine bytes (benchAt s b))
-      end-case true e = named s (ite-true _ _ e) (ite-true _ _ e) (quiet-turned s noMore)
-      end-case false e = drain-case e (b .draining) refl
+  next-turned =
+      ite-two (Turned s) (b .ended) _ _ _ _ (λ _. quiet-turned s noMore)
+      (λ e. ite-two (Turned s) (b .draining) _ _ _ _ (λ _. drain-turned s (good e) (b .at) (b .count))
+      (λ _. ite-two (Turned s) (ltb (b .at) (length bytes)) _ _ _ _
+      (λ _. record-turned s (good e) (reading bytes (b .at)) (b .at + reading bytes (b .at) .used))
+      (λ _. quiet-turned s noMore)))
 
   none : {m : Step} → m ≡ next .step → b .ended ≡ true → m .what ≡ 0
   unfolding nextTurn

@@ -4,44 +4,43 @@ use mathlib.Core.Path.{_≡_, refl, sym, ap, ap₂, subst, _∙_}
 use mathlib.Core.Bool.{Bool, true, false}
 use mathlib.Core.List.{List}
 use mathlib.Core.Logic.{_≢_}
-use Prim.Native.Nat.{ℕ, _-_, _≤_, _<_}
-use native.Mathlib.Decide.{ℕ-discrete}
+use Prim.Native.Nat.{ℕ, _-_, _≤_}
 use native.Mathlib.Omega.{arith}
 use lib.Dec.{eqb}
 use lib.ListN.{getD, set}
-use lib.Seq.{set-getD, set-set, getD-set-other}
-use borrow.Author.Tests.{eq-eqb, ne-eqb, le-leb}
+use lib.Seq.{set-getD, getD-set-other}
+use borrow.Author.Tests.{eqb-true, le-leb}
 use Rattle.basics.specs.Choice.{ite}
 use Rattle.basics.specs.Refusal.{Trial, firstOf}
-use Rattle.basics.proofs.Choices.{ite-true, ite-false}
-use Rattle.refusals.specs.Refusals.Event.{write, read}
+use Rattle.basics.proofs.Choices.{ite-true, ite-false, ite-two}
+use Rattle.refusals.specs.Refusals.Event.{read}
 use Rattle.events.specs.declared.Answer.the-variants.{Nothing}
 use Rattle.panel.specs.declared.Panel.{Panel}
 use Rattle.panel.specs.declared.Next.{Next}
 use Rattle.panel.specs.Calls.{after}
-use Rattle.promise.specs.View.{codeOf}
 use Rattle.channels.specs.declared.Row.{Row}
-use Rattle.channels.specs.Channels.{noRow, valueIn, channelAt}
+use Rattle.channels.specs.Channels.{noRow, valueIn}
 use Rattle.channels.specs.Posting.{postedAll, taken}
 use Rattle.house.specs.declared.Network.{Network}
-use Rattle.house.specs.Places.{nobody, panelAt, rowAt, channelOf, nOf, writerOf, withPanel, withRow}
+use Rattle.house.specs.Places.{nobody, panelAt, rowAt, channelOf, nOf, writerOf, withRow}
 use Rattle.house.specs.NetForm.{netForm}
-use Rattle.house.proofs.NetForms.{form-view, writer-low, writer-high}
+use Rattle.house.proofs.NetForms.{form-view, writer-high}
 use Rattle.steps.specs.declared.Stepped.{Stepped}
 use Rattle.steps.specs.Steps as steps
 use Rattle.steps.specs.Steps.{isPair, comes, writeIn, readIn, deliverIn, loseIn}
-use Rattle.steps.proofs.Settling as settling
 use Rattle.steps.proofs.Passing.{pair-iff, places-apart, may-read}
 use Rattle.parts.specs.declared.Step.{Step}
-use Rattle.parts.specs.declared.Parts.{Parts}
 use Rattle.parts.specs.declared.Moved.{Moved}
-use Rattle.parts.specs.Acting.{placeWithin, actorOf, senderOf, withFrom, withTaken, withActor, refusedBy, tried, writeTrials, readTrials, deliverTrials, loseTrials, settled, written, begun, delivered, lost, moved}
-use Rattle.parts.proofs.Trials.{acts-write, acts-read, acts-deliver, acts-lose, acts-none}
-use Rattle.parts.specs.Steps.{partsAt, putBack, movedIn, putBackFor, stepIn}
+use Rattle.parts.specs.Acting.{placeWithin, actorOf, senderOf, withFrom, withTaken, refusedBy, tried, writeTrials, readTrials, deliverTrials, loseTrials, settled, written, begun, delivered, lost, moved}
+use Rattle.parts.specs.Steps.{partsAt, putBack, movedIn, stepIn}
 
 -- what a step on the parts at places i and j comes to, put back
 abbrev pub back : Network → ℕ → ℕ → Moved → Stepped
 back s i j a = record { network = putBack s i j (a .parts); answer = a .answer }
+
+-- it comes to what a step of the network comes to
+abbrev Backed : Network → ℕ → ℕ → Moved → Stepped → Type 0
+Backed s i j a b = back s i j a ≡ b
 
 -- ---- what is as it was
 
@@ -61,18 +60,11 @@ tried-back :
     (ts : List Trial) (s : Network) (i j : ℕ) (a : Moved) (b : Stepped) → (firstOf ts ≡ 0 → back s i j a ≡ b) →
     back s i j (tried ts (partsAt s i j) a) ≡ steps.tried ts s b
 unfolding tried steps.tried
-tried-back ts s i j a b same = by (ℕ-discrete (firstOf ts) 0)
-  where
-    by : Dec (firstOf ts ≡ 0) → back s i j (tried ts (partsAt s i j) a) ≡ steps.tried ts s b
-    by (yes z) = ap (back s i j) (ite-true _ _ (eq-eqb _ _ z)) ∙ same z ∙ sym (ite-true _ _ (eq-eqb _ _ z))
-    by (no n) = ap (back s i j) (ite-false _ _ (ne-eqb _ _ n)) ∙ refused-back s i j _ ∙ sym (ite-false _ _ (ne-eqb _ _ n))
+tried-back ts s i j a b same = ite-two (Backed s i j) _ _ _ _ _ (λ z. same (eqb-true _ _ z)) (λ _. refused-back s i j _)
 
 -- ---- the panel's event: r are the channels that leave place i afterwards
 
 module _ (s : Network) (i j : ℕ) (r : Row) (q : Next) (own : rowAt (withRow s i r) j ≡ rowAt s j) where
-  abbrev Same : Type 0
-  Same = back s i j (settled (partsAt s i j) (withFrom (partsAt s i j) r) q) ≡ steps.settled s (withRow s i r) j q
-
   -- the panel accepts, and o are its channels
   abbrev done : Row → Stepped
   done o =
@@ -81,35 +73,25 @@ module _ (s : Network) (i j : ℕ) (r : Row) (q : Next) (own : rowAt (withRow s 
         answer = q .answer;
       }
 
-  abbrev room : Row → Bool
-  room o = postedAll o (q .sends) .fits
+  -- if all that it sends finds room
+  abbrev done-or-full : Row → Stepped
+  done-or-full o = ite (postedAll o (q .sends) .fits) (done o) (steps.refusedBy s 14)
 
-  pub settled-back : Same
+  pub settled-back : Backed s i j (settled (partsAt s i j) (withFrom (partsAt s i j) r) q) (steps.settled s (withRow s i r) j q)
   unfolding settled steps.settled
-  settled-back = by (ℕ-discrete (codeOf (q .answer)) 0)
-    where
-      fits : codeOf (q .answer) ≡ 0 → (b : Bool) → room (rowAt s j) ≡ b → Same
-      fits z true e =
-          ap (back s i j) (ite-true _ _ (eq-eqb _ _ z) ∙ ite-true _ _ e)
-          ∙ ap done (sym own)
-          ∙ sym (ite-true _ _ (eq-eqb _ _ z) ∙ ite-true _ _ (ap room own ∙ e))
-      fits z false e =
-          ap (back s i j) (ite-true _ _ (eq-eqb _ _ z) ∙ ite-false _ _ e)
-          ∙ refused-back s i j 14
-          ∙ sym (ite-true _ _ (eq-eqb _ _ z) ∙ ite-false _ _ (ap room own ∙ e))
-
-      by : Dec (codeOf (q .answer) ≡ 0) → Same
-      by (yes z) = fits z (room (rowAt s j)) refl
-      by (no n) = ap (back s i j) (ite-false _ _ (ne-eqb _ _ n)) ∙ refused-back s i j _ ∙ sym (ite-false _ _ (ne-eqb _ _ n))
+  settled-back =
+      ite-two (Backed s i j) _ _ _ _ _
+      (λ _. ite-two (Backed s i j) (postedAll (rowAt s j) (q .sends) .fits) _ _ _ _ (λ _. refl) (λ _. refused-back s i j 14) ∙ ap done-or-full (sym own))
+      (λ _. refused-back s i j _)
 
 -- a start takes nothing out of a channel
-started-back : (s : Network) (j : ℕ) (q : Next) → back s j j (settled (partsAt s j j) (partsAt s j j) q) ≡ steps.settled s s j q
-started-back s j q =
-    settled-back s j j (rowAt s j) q (ap (λ (rs : List Row). getD rs j noRow) same)
+started-back : (s : Network) (i j : ℕ) (q : Next) → back s i j (settled (partsAt s i j) (partsAt s i j) q) ≡ steps.settled s s j q
+started-back s i j q =
+    settled-back s i j (rowAt s i) q (ap (λ (rs : List Row). getD rs j noRow) same)
     ∙ ap (λ (rs : List Row). steps.settled s (record { panels = s .panels; rows = rs; down = s .down }) j q) same
   where
-    same : set (s .rows) j (rowAt s j) ≡ s .rows
-    same = set-getD (s .rows) j noRow
+    same : set (s .rows) i (rowAt s i) ≡ s .rows
+    same = set-getD (s .rows) i noRow
 
 -- ---- the steps
 
@@ -121,27 +103,27 @@ module _ (s : Network) (f : netForm s ≡ true) where
   low : {i : ℕ} → i ≤ nOf s → i ≤ 7
   low {i} h = omega (arith, h, form-view s f .n-high)
 
-  write-back : (v : ℕ) {p : ℕ} → p ≡ placeWithin (writerOf s) → back s p p (written (partsAt s p p) v) ≡ writeIn s v
+  write-back : (v o : ℕ) {p : ℕ} → p ≡ placeWithin (writerOf s) → back s o p (written (partsAt s o p) v) ≡ writeIn s v
   unfolding written writeIn writeTrials steps.writeTrials
-  write-back v {p} e =
-      subst (λ (j : ℕ). back s j j (written (partsAt s j j) v) ≡ writeIn s v)
+  write-back v o e =
+      subst (λ (j : ℕ). back s o j (written (partsAt s o j) v) ≡ writeIn s v)
       (sym (e ∙ place-is (low (writer-high s (form-view s f)))))
-      (tried-back (steps.writeTrials s) s (writerOf s - 1) (writerOf s - 1) _ _ (λ _. started-back s (writerOf s - 1) _))
+      (tried-back (steps.writeTrials s) s o (writerOf s - 1) _ _ (λ _. started-back s o (writerOf s - 1) _))
 
-  read-back : (i : ℕ) {p : ℕ} → p ≡ placeWithin i → back s p p (begun (partsAt s p p) i) ≡ readIn s i
+  read-back : (i o : ℕ) {p : ℕ} → p ≡ placeWithin i → back s o p (begun (partsAt s o p) i) ≡ readIn s i
   unfolding begun readIn readTrials steps.readTrials
-  read-back i {p} e =
-      tried-back (steps.readTrials s i) s p p _ _
+  read-back i o {p} e =
+      tried-back (steps.readTrials s i) s o p _ _
       (λ z.
-      subst (λ (j : ℕ). back s j j (settled (partsAt s j j) (partsAt s j j) (after (panelAt s j) read)) ≡ steps.settled s s (i - 1) (after (panelAt s (i - 1)) read))
+      subst (λ (j : ℕ). back s o j (settled (partsAt s o j) (partsAt s o j) (after (panelAt s j) read)) ≡ steps.settled s s (i - 1) (after (panelAt s (i - 1)) read))
       (sym (e ∙ place-is (low (may-read s i .0 z .high))))
-      (started-back s (i - 1) _))
+      (started-back s o (i - 1) _))
 
-  lose-back : (i p : ℕ) → back s p p (lost (partsAt s p p) i) ≡ loseIn s i
+  lose-back : (i o p : ℕ) → back s o p (lost (partsAt s o p) i) ≡ loseIn s i
   unfolding lost loseIn loseTrials steps.loseTrials
-  lose-back i p =
-      tried-back (steps.loseTrials s i) s p p _ _
-      (λ _. ap (λ (x : Network). record { network = record { panels = x .panels; rows = x .rows; down = set (s .down) (i - 1) true }; answer = Nothing }) (unmoved s p p))
+  lose-back i o p =
+      tried-back (steps.loseTrials s i) s o p _ _
+      (λ _. ap (λ (x : Network). record { network = record { panels = x .panels; rows = x .rows; down = set (s .down) (i - 1) true }; answer = Nothing }) (unmoved s o p))
 
   -- the message taken out, the panel's own channels are as they were
   delivered-back :
@@ -184,69 +166,29 @@ module _ (s : Network) (f : netForm s ≡ true) where
     abbrev at : ℕ
     at = actorOf m (writerOf s)
 
-    abbrev Back : ℕ → Type 0
-    Back o = back s o at (moved (partsAt s o at) m) ≡ stepIn s m
+    abbrev Here : Moved → Stepped → Type 0
+    Here = Backed s from at
 
-    -- only a delivery has another place too
-    by-one : m .what ≢ 3 → Back at → Back from
+    from-is : eqb (m .what) 3 ≡ true → from ≡ placeWithin (m .from)
     unfolding senderOf
-    by-one c h = subst Back (sym (ite-false _ _ (ne-eqb _ _ c))) h
+    from-is c = ite-true _ _ c
 
-    from-is : m .what ≡ 3 → from ≡ placeWithin (m .from)
-    unfolding senderOf
-    from-is c = ite-true _ _ (eq-eqb _ _ c)
-
-    writer-is : m .what ≡ 1 → at ≡ placeWithin (writerOf s)
+    writer-is : eqb (m .what) 1 ≡ true → at ≡ placeWithin (writerOf s)
     unfolding actorOf
-    writer-is a = ite-true _ _ (eq-eqb _ _ a)
+    writer-is a = ite-true _ _ a
 
-    at-is : m .what ≢ 1 → at ≡ placeWithin (m .at)
+    at-is : eqb (m .what) 1 ≡ false → at ≡ placeWithin (m .at)
     unfolding actorOf
-    at-is a = ite-false _ _ (ne-eqb _ _ a)
-
-    none-case : m .what ≢ 1 → m .what ≢ 2 → m .what ≢ 3 → m .what ≢ 4 → Back from
-    unfolding stepIn
-    none-case a b c d =
-        by-one c
-        (ap (back s at at) (sym (acts-none _ m a b c d))
-        ∙ ap (λ (x : Network). record { network = x; answer = Nothing }) (unmoved s at at)
-        ∙ sym (ite-false _ _ (ne-eqb _ _ a) ∙ ite-false _ _ (ne-eqb _ _ b) ∙ ite-false _ _ (ne-eqb _ _ c) ∙ ite-false _ _ (ne-eqb _ _ d)))
-
-    lose-case : m .what ≢ 1 → m .what ≢ 2 → m .what ≢ 3 → Dec (m .what ≡ 4) → Back from
-    unfolding stepIn
-    lose-case a b c (yes d) =
-        by-one c
-        (ap (back s at at) (sym (acts-lose _ m a b c d))
-        ∙ lose-back (m .at) at
-        ∙ sym (ite-false _ _ (ne-eqb _ _ a) ∙ ite-false _ _ (ne-eqb _ _ b) ∙ ite-false _ _ (ne-eqb _ _ c) ∙ ite-true _ _ (eq-eqb _ _ d)))
-    lose-case a b c (no d) = none-case a b c d
-
-    deliver-case : m .what ≢ 1 → m .what ≢ 2 → Dec (m .what ≡ 3) → Back from
-    unfolding stepIn
-    deliver-case a b (yes c) =
-        ap (back s from at) (sym (acts-deliver _ m a b c))
-        ∙ deliver-back (m .kind) (m .from) (m .at) (from-is c) (at-is a)
-        ∙ sym (ite-false _ _ (ne-eqb _ _ a) ∙ ite-false _ _ (ne-eqb _ _ b) ∙ ite-true _ _ (eq-eqb _ _ c))
-    deliver-case a b (no c) = lose-case a b c (ℕ-discrete (m .what) 4)
-
-    read-case : m .what ≢ 1 → Dec (m .what ≡ 2) → Back from
-    unfolding stepIn
-    read-case a (yes b) =
-        by-one (λ c. omega (arith, b))
-        (ap (back s at at) (sym (acts-read _ m a b))
-        ∙ read-back (m .at) (at-is a)
-        ∙ sym (ite-false _ _ (ne-eqb _ _ a) ∙ ite-true _ _ (eq-eqb _ _ b)))
-    read-case a (no b) = deliver-case a b (ℕ-discrete (m .what) 3)
-
-    write-case : Dec (m .what ≡ 1) → Back from
-    unfolding stepIn
-    write-case (yes a) =
-        by-one (λ c. omega (arith, a))
-        (ap (back s at at) (sym (acts-write _ m a)) ∙ write-back (m .value) (writer-is a) ∙ sym (ite-true _ _ (eq-eqb _ _ a)))
-    write-case (no a) = read-case a (ℕ-discrete (m .what) 2)
+    at-is a = ite-false _ _ a
 
     pub moved-back : back s from at (movedIn s m) ≡ stepIn s m
-    moved-back = write-case (ℕ-discrete (m .what) 1)
+    unfolding moved stepIn
+    moved-back =
+        ite-two Here (eqb (m .what) 1) _ _ _ _ (λ a. write-back (m .value) from (writer-is a))
+        (λ a. ite-two Here (eqb (m .what) 2) _ _ _ _ (λ _. read-back (m .at) from (at-is a))
+        (λ _. ite-two Here (eqb (m .what) 3) _ _ _ _ (λ c. deliver-back (m .kind) (m .from) (m .at) (from-is c) (at-is a))
+        (λ _. ite-two Here (eqb (m .what) 4) _ _ _ _ (λ _. lose-back (m .at) from at)
+        (λ _. ap (λ (x : Network). record { network = x; answer = Nothing }) (unmoved s from at)))))
 
 -- with the places and what is made of the parts as the code holds them
 pub step-back :
@@ -257,9 +199,5 @@ step-back s f m {o} {p} from at e =
 
 -- no step leaves any network as it is
 pub still-back : (s : Network) (m : Step) → m .what ≡ 0 → back s (senderOf m (writerOf s)) (actorOf m (writerOf s)) (movedIn s m) ≡ record { network = s; answer = Nothing }
-still-back s m z =
-    ap (back s (senderOf m (writerOf s)) (actorOf m (writerOf s))) (sym (acts-none _ m (not-step 1 (omega arith)) (not-step 2 (omega arith)) (not-step 3 (omega arith)) (not-step 4 (omega arith))))
-    ∙ ap (λ (x : Network). record { network = x; answer = Nothing }) (unmoved s _ _)
-  where
-    not-step : (k : ℕ) → 0 < k → m .what ≢ k
-    not-step k h e = omega (arith, z)
+unfolding moved ite
+still-back s m z = simp z (ap (λ (x : Network). record { network = x; answer = Nothing }) (unmoved s _ _))

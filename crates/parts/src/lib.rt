@@ -10,7 +10,7 @@ ghost use Rattle.panel.specs.Calls.{after};
 ghost use Rattle.promise.specs.View.{codeOf};
 ghost use Rattle.house.specs.NetForm.{mayBeDown, downsIn};
 ghost use Rattle.steps.specs.Steps.{isPair, comes};
-ghost use Rattle.parts.specs.Acting.{placeWithin, actorOf, senderOf, refusedBy, withTaken, withActor, withDown, settled, written, begun, delivered, lost, moved};
+ghost use Rattle.parts.specs.Acting.{placeWithin, actorOf, senderOf, refusedBy, withFrom, withDown, settled, written, begun, delivered, lost, moved};
 use channels::Row;
 use events::Answer;
 use panel::Next;
@@ -104,27 +104,7 @@ fn one_more_down(t: u8, down: [bool; 7]) -> bool
     house::may_be_down(t, house::downs(down) + 1)
 }
 
-// ---- the parts with one thing changed
-
-// Without one message of kind `kind` from the sender to panel j.
-fn with_taken(x: Parts, kind: u8, j: u8) -> Parts
-    ensures { λ r. ⌜ r ≡ withTaken x kind j ⌝ }
-{
-    let row = x.from;
-    let mut y = x;
-    y.from = channels::taken(row, place_of(j), kind);
-    y
-}
-
-// The panel that acts is p, and r the channels that leave it.
-fn with_actor(x: Parts, p: Panel, r: Row) -> Parts
-    ensures { λ y. ⌜ y ≡ withActor x p r ⌝ }
-{
-    let mut y = x;
-    y.panel = p;
-    y.own = r;
-    y
-}
+// ---- who is down
 
 fn down_too(down: [bool; 7], i: u8) -> [bool; 7]
     ensures { λ r. ⌜ r ≡ set down (i - 1) true ⌝ }
@@ -177,9 +157,9 @@ fn refused(x: Parts, k: u8) -> Moved
     }
 }
 
-// The panel has come to q; what it sends goes into its channels in y. x are the parts before the step.
-fn settle(x: Parts, y: Parts, q: Next) -> Moved
-    ensures { λ r. ⌜ r ≡ settled x y q ⌝ }
+// The panel has come to q, and what it sends goes into its channels; `from` are the sender's channels afterwards.
+fn settle(x: Parts, from: Row, q: Next) -> Moved
+    ensures { λ r. ⌜ r ≡ settled x (withFrom x from) q ⌝ }
 {
     let answer = q.answer;
     let k = code_of(answer);
@@ -187,16 +167,25 @@ fn settle(x: Parts, y: Parts, q: Next) -> Moved
         return refused(x, k);
     }
     let sends = q.sends;
-    let own = y.own;
+    let own = x.own;
     let a = channels::post_all(own, sends);
     if !a.fits {
         return refused(x, 14);
     }
-    let p = q.panel;
-    let r = a.row;
+    let down = x.down;
+    let panel = q.panel;
+    let own = a.row;
     Moved {
         answer,
-        parts: with_actor(y, p, r),
+        parts: Parts {
+            n: x.n,
+            t: x.t,
+            writer: x.writer,
+            down,
+            panel,
+            from,
+            own,
+        },
     }
 }
 
@@ -226,7 +215,8 @@ fn write(x: Parts, v: u32) -> Moved
         return refused(x, 5);
     }
     let p = x.panel;
-    settle(x, x, p.after_write(v))
+    let row = x.from;
+    settle(x, row, p.after_write(v))
 }
 
 fn read(x: Parts, i: u8) -> Moved
@@ -240,7 +230,8 @@ fn read(x: Parts, i: u8) -> Moved
         return refused(x, 5);
     }
     let p = x.panel;
-    settle(x, x, p.after_read())
+    let row = x.from;
+    settle(x, row, p.after_read())
 }
 
 fn deliver(x: Parts, kind: u8, i: u8, j: u8) -> Moved
@@ -260,7 +251,7 @@ fn deliver(x: Parts, kind: u8, i: u8, j: u8) -> Moved
     }
     let p = x.panel;
     let q = come(p, kind, i, channels::value_in(c, kind));
-    settle(x, with_taken(x, kind, j), q)
+    settle(x, channels::taken(row, place_of(j), kind), q)
 }
 
 fn lose(x: Parts, i: u8) -> Moved

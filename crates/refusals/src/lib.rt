@@ -86,17 +86,17 @@ fn bit_number(bit: bool) -> usize
     if bit { 1 } else { 0 }
 }
 
-fn number_at(ws: [WriteNo; 7], k: usize) -> u8
-    ensures { λ r. ⌜ r ≡ wAt ws k ⌝ }
+fn number_at(ws: [WriteNo; 7], k: usize) -> WriteNo
+    ensures { λ r. ⌜ r .0 ≡ wAt ws k ⌝ }
 {
-    if k < 7 { ws[k].0 } else { 0 }
+    if k < 7 { ws[k] } else { WriteNo(0) }
 }
 
 pub fn right_bit(p: Tables, k: usize, bit: bool) -> bool
     ensures { λ r. ⌜ r ≡ rightBit p k bit ⌝ }
 {
     let ws = p.w;
-    let x = wide(number_at(ws, k));
+    let x = wide(number_at(ws, k).0);
     bit_number(bit) == (x + 1) % 2
 }
 

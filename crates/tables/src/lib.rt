@@ -70,10 +70,12 @@ fn entry_ok(inside: bool, before: u8, x: u8, low: u8, high: u8) -> bool
 }
 
 // `place` is k in a byte: the entries are bytes too, and the compiler tests sixteen of them at once.
-pub fn line_ok(l: Line, low: u8, high: u8) -> bool
-    ensures { λ r. ⌜ r ≡ lineOk l low high ⌝ }
+pub fn line_ok(l: Line, low: WriteNo, high: WriteNo) -> bool
+    ensures { λ r. ⌜ r ≡ lineOk l (low .0) (high .0) ⌝ }
 {
     let len = l.len;
+    let low = low.0;
+    let high = high.0;
     let mut ok = true;
     let mut before = l.sn[0].0;
     let mut place: u8 = 0;
@@ -87,11 +89,11 @@ pub fn line_ok(l: Line, low: u8, high: u8) -> bool
     both(len <= 100, ok)
 }
 
-pub fn hold_ok(h: Hold, low: u8, high: u8, at_writer: bool) -> bool
-    ensures { λ r. ⌜ r ≡ holdOk h low high «at_writer» ⌝ }
+pub fn hold_ok(h: Hold, low: WriteNo, high: WriteNo, at_writer: bool) -> bool
+    ensures { λ r. ⌜ r ≡ holdOk h (low .0) (high .0) «at_writer» ⌝ }
 {
-    let next = wide(low) + 2;
-    let top = wide(high);
+    let next = wide(low.0) + 2;
+    let top = wide(high.0);
     let held = both(next <= 200, choose(at_writer, next <= top, true));
     choose(h.full, held, h.value == 0)
 }
@@ -102,9 +104,10 @@ pub fn quiet_ok(h: Hold, l: Line) -> bool
     both(!h.full, l.len == 0)
 }
 
-pub fn history_ok(history: [u32; 201], high: u8) -> bool
-    ensures { λ r. ⌜ r ≡ historyOk history high ⌝ }
+pub fn history_ok(history: [u32; 201], high: WriteNo) -> bool
+    ensures { λ r. ⌜ r ≡ historyOk history (high .0) ⌝ }
 {
+    let high = high.0;
     let mut ok = true;
     let mut k = wide(high) + 1;
     while k < 201 {
@@ -117,35 +120,35 @@ pub fn history_ok(history: [u32; 201], high: u8) -> bool
 
 // ---- marks
 
-pub fn has_w(ws: [WriteNo; 7], n: u8, x: u8) -> [bool; 7]
-    ensures { λ r. ⌜ r ≡ marks n (hasW ws x) ⌝ }
+pub fn has_w(ws: [WriteNo; 7], n: u8, x: WriteNo) -> [bool; 7]
+    ensures { λ r. ⌜ r ≡ marks n (hasW ws (x .0)) ⌝ }
 {
     let end = wide(n);
     let mut marked = [false; 7];
     for j in 0..7 {
-        marked[j] = both(j < end, ws[j].0 == x);
+        marked[j] = both(j < end, ws[j].0 == x.0);
     }
     marked
 }
 
-pub fn reaches_w(ws: [WriteNo; 7], n: u8, x: u8) -> [bool; 7]
-    ensures { λ r. ⌜ r ≡ marks n (reachesW ws x) ⌝ }
+pub fn reaches_w(ws: [WriteNo; 7], n: u8, x: WriteNo) -> [bool; 7]
+    ensures { λ r. ⌜ r ≡ marks n (reachesW ws (x .0)) ⌝ }
 {
     let end = wide(n);
     let mut marked = [false; 7];
     for j in 0..7 {
-        marked[j] = both(j < end, x <= ws[j].0);
+        marked[j] = both(j < end, x.0 <= ws[j].0);
     }
     marked
 }
 
-pub fn has_r(rs: [ReadNo; 7], n: u8, y: u8) -> [bool; 7]
-    ensures { λ r. ⌜ r ≡ marks n (hasR rs y) ⌝ }
+pub fn has_r(rs: [ReadNo; 7], n: u8, y: ReadNo) -> [bool; 7]
+    ensures { λ r. ⌜ r ≡ marks n (hasR rs (y .0)) ⌝ }
 {
     let end = wide(n);
     let mut marked = [false; 7];
     for j in 0..7 {
-        marked[j] = both(j < end, rs[j].0 == y);
+        marked[j] = both(j < end, rs[j].0 == y.0);
     }
     marked
 }
@@ -198,8 +201,8 @@ pub fn joined(l: Line, x: WriteNo) -> Line
     m
 }
 
-pub fn leaving(l: Line, x: u8) -> u8
-    ensures { λ r. ⌜ r ≡ leaving l x ⌝ }
+pub fn leaving(l: Line, x: WriteNo) -> u8
+    ensures { λ r. ⌜ r ≡ leaving l (x .0) ⌝ }
 {
     let len = l.len;
     let mut m: u8 = 0;
@@ -208,7 +211,7 @@ pub fn leaving(l: Line, x: u8) -> u8
             return len;
         }
         let k = wide(m);
-        if x < l.sn[k].0 {
+        if x.0 < l.sn[k].0 {
             return m;
         }
         m += 1;

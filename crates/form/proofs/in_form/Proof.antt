@@ -30,10 +30,10 @@ element-copy-out-wi : tie.Need-element-copy-out-wi
 element-copy-out-wi c = let s = sized-by (c .before .before .before .before .before .args .t1) (sym (c .before .before .before .before .fits2 .ensures) ∙ not-false _ (c .before .before .before .if1 .left)) (sym (c .before .before .is-panel .ensures) ∙ not-false _ (c .before .if2 .left)) in omega (arith, s .low, s .high, c .wide .ensures .0)
 
 element-copy-out-ri : tie.Need-element-copy-out-ri
-element-copy-out-ri c = let s = sized-by (c .before .before .before .before .before .args .t1) (sym (c .before .before .before .before .fits2 .ensures) ∙ not-false _ (c .before .before .before .if1 .left)) (sym (c .before .before .is-panel .ensures) ∙ not-false _ (c .before .if2 .left)) in omega (arith, s .low, s .high, c .wide .ensures .0)
+element-copy-out-ri c = let s = sized-by (c .before .before .before .before .before .before .args .t1) (sym (c .before .before .before .before .before .fits2 .ensures) ∙ not-false _ (c .before .before .before .before .if1 .left)) (sym (c .before .before .before .is-panel .ensures) ∙ not-false _ (c .before .before .if2 .left)) in omega (arith, s .low, s .high, c .before .wide .ensures .0)
 
 places-ok-requires : tie.Need-places-ok-requires
-places-ok-requires c κs = sized-by (c .before .before .before .before .before .before .args .t1) (sym (c .before .before .before .before .before .fits2 .ensures) ∙ not-false _ (c .before .before .before .before .if1 .left)) (sym (c .before .before .before .is-panel .ensures) ∙ not-false _ (c .before .before .if2 .left))
+places-ok-requires c κs = sized-by (c .before .before .before .before .before .before .before .before .args .t1) (sym (c .before .before .before .before .before .before .before .fits2 .ensures) ∙ not-false _ (c .before .before .before .before .before .before .if1 .left)) (sym (c .before .before .before .before .before .is-panel .ensures) ∙ not-false _ (c .before .before .before .before .if2 .left))
 
 history-ok-requires : tie.Need-history-ok-requires
 history-ok-requires c κs = search needs
@@ -55,7 +55,7 @@ both-requires-4 c κs = search needs
 
 returns-3 : tie.Need-returns-3
 unfolding atWriter
-returns-3 c = simp (c .both4 .ensures, c .before .both3 .ensures, c .before .before .both2 .ensures, c .before .before .before .both .ensures, c .before .before .before .before .operation-ok .ensures, c .before .before .before .before .before .history-ok .ensures, c .before .before .before .before .before .before .places-ok .ensures) (whole-form (c .before .before .before .before .before .before .before .before .before .before .before .before .before .args .t1) _ (c .before .before .before .before .before .before .before .before .wide .ensures .0) (sym (c .before .before .before .before .before .before .before .before .before .before .before .before .fits2 .ensures) ∙ not-false _ (c .before .before .before .before .before .before .before .before .before .before .before .if1 .left)) (sym (c .before .before .before .before .before .before .before .before .before .before .is-panel .ensures) ∙ not-false _ (c .before .before .before .before .before .before .before .before .before .if2 .left)))
+returns-3 c = simp (c .both4 .ensures, c .before .both3 .ensures, c .before .before .both2 .ensures, c .before .before .before .both .ensures, c .before .before .before .before .before .before .operation-ok .ensures, c .before .before .before .before .before .before .before .history-ok .ensures, c .before .before .before .before .before .before .before .before .places-ok .ensures) (whole-form (c .before .before .before .before .before .before .before .before .before .before .before .before .before .before .before .before .before .args .t1) _ (c .before .before .before .before .before .before .before .before .before .before .before .before .wide .ensures .0) (sym (c .before .before .before .before .before .before .before .before .before .before .before .before .before .before .before .before .fits2 .ensures) ∙ not-false _ (c .before .before .before .before .before .before .before .before .before .before .before .before .before .before .before .if1 .left)) (sym (c .before .before .before .before .before .before .before .before .before .before .before .before .before .before .is-panel .ensures) ∙ not-false _ (c .before .before .before .before .before .before .before .before .before .before .before .before .before .if2 .left)))
 
 pub in-form-spec : {M : Type 1} → statement M
 in-form-spec =

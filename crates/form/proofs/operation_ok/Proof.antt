@@ -28,15 +28,15 @@ returns c = simp (c .enum-told .given .1)
 
 returns-2 : tie.Need-returns-2
 unfolding operationOk
-returns-2 c = simp (c .before .enum-told2 .given .1, c .both .ensures)
+returns-2 c = simp (c .before .before .enum-told2 .given .1, c .both .ensures)
 
 returns-3 : tie.Need-returns-3
 unfolding operationOk
-returns-3 c = simp (c .enum-told3 .given .1)
+returns-3 c = simp (c .before .enum-told3 .given .1)
 
 returns-4 : tie.Need-returns-4
 unfolding operationOk
-returns-4 c = simp (c .before .before .before .o .given .1, c .both2 .ensures)
+returns-4 c = simp (c .before .before .before .before .before .o .given .1, c .both2 .ensures)
 
 pub operation-ok-spec : {M : Type 1} → statement M
 operation-ok-spec =

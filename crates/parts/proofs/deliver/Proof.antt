@@ -44,14 +44,17 @@ value-in-requires c κs = search needs
 come-requires : tie.Need-come-requires
 come-requires c κs = search needs
 
-with-taken-requires : tie.Need-with-taken-requires
-with-taken-requires c κs = search needs
+place-of-requires-2 : tie.Need-place-of-requires-2
+place-of-requires-2 c κs = search needs
+
+taken-requires : tie.Need-taken-requires
+taken-requires c κs = search needs
 
 settle-requires : tie.Need-settle-requires
 settle-requires c κs = search needs
 
 returns-4 : tie.Need-returns-4
-returns-4 c = simp (c .settle .ensures, c .before .with-taken .ensures, c .before .before .come .ensures) (deliver-comes _ _ _ _ (c .before .before .before .before .before .before .before .before .before .before .before .before .before .before .is-pair .ensures) (c .before .before .before .before .before .before .before .before .before .before .before .before .before .if1 .left) (c .before .before .before .before .before .before .before .before .before .before .before .is-down .ensures) (c .before .before .before .before .before .before .before .before .before .before .if2 .left) (c .before .before .before .before .before .before .before .before .place-of .ensures) (c .before .before .before .before .before .before .before .channel-to .ensures) (c .before .before .before .before .before .before .has .ensures) (c .before .before .before .value-in .ensures) (c .before .before .before .before .before .if3 .left))
+returns-4 c = simp (c .settle .ensures, c .before .taken .ensures, c .before .before .place-of2 .ensures, c .before .before .before .come .ensures) (deliver-comes _ _ _ _ (c .before .before .before .before .before .before .before .before .before .before .before .before .before .before .before .is-pair .ensures) (c .before .before .before .before .before .before .before .before .before .before .before .before .before .before .if1 .left) (c .before .before .before .before .before .before .before .before .before .before .before .before .is-down .ensures) (c .before .before .before .before .before .before .before .before .before .before .before .if2 .left) (c .before .before .before .before .before .before .before .before .before .place-of .ensures) (c .before .before .before .before .before .before .before .before .channel-to .ensures) (c .before .before .before .before .before .before .before .has .ensures) (c .before .before .before .before .value-in .ensures) (c .before .before .before .before .before .before .if3 .left))
 
 pub deliver-spec : {M : Type 1} → statement M
 deliver-spec =
@@ -70,6 +73,7 @@ deliver-spec =
     returns-3
     value-in-requires
     come-requires
-    with-taken-requires
+    place-of-requires-2
+    taken-requires
     settle-requires
     returns-4)

@@ -30,7 +30,7 @@ settle-requires : tie.Need-settle-requires
 settle-requires c κs = search needs
 
 returns-3 : tie.Need-returns-3
-returns-3 c = simp (c .settle .ensures, c .before .after-read .ensures) (read-live _ _ (c .before .before .before .before .before .before .before .is-panel .ensures) (c .before .before .before .before .before .before .if1 .left) (c .before .before .before .before .is-down .ensures) (c .before .before .before .if2 .left))
+returns-3 c = simp (c .settle .ensures, c .before .after-read .ensures) (read-live _ _ (c .before .before .before .before .before .before .before .before .is-panel .ensures) (c .before .before .before .before .before .before .before .if1 .left) (c .before .before .before .before .before .is-down .ensures) (c .before .before .before .before .if2 .left))
 
 pub read-spec : {M : Type 1} → statement M
 read-spec =

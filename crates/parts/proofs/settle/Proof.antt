@@ -23,11 +23,8 @@ refused-requires-2 c κs = search needs
 returns-2 : tie.Need-returns-2
 returns-2 c = c .refused2 .ensures ∙ event-full _ _ _ (c .before .before .before .before .before .before .before .code-of .ensures) (c .before .before .before .before .before .before .if1 .left) (c .before .before .before .post-all .ensures) (c .before .if2 .taken)
 
-with-actor-requires : tie.Need-with-actor-requires
-with-actor-requires c κs = search needs
-
 returns-3 : tie.Need-returns-3
-returns-3 c = simp (c .with-actor .ensures) (event-done _ _ _ (c .before .before .before .before .before .before .before .before .before .code-of .ensures) (c .before .before .before .before .before .before .before .before .if1 .left) (c .before .before .before .before .before .post-all .ensures) (c .before .before .before .if2 .left))
+returns-3 c = event-done _ _ _ (c .before .before .before .before .before .before .before .before .before .code-of .ensures) (c .before .before .before .before .before .before .before .before .if1 .left) (c .before .before .before .before .before .post-all .ensures) (c .before .before .before .if2 .left)
 
 pub settle-spec : {M : Type 1} → statement M
 settle-spec =
@@ -39,5 +36,4 @@ settle-spec =
     post-all-requires
     refused-requires-2
     returns-2
-    with-actor-requires
     returns-3)

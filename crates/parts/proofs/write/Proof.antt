@@ -21,7 +21,7 @@ settle-requires : tie.Need-settle-requires
 settle-requires c κs = search needs
 
 returns-2 : tie.Need-returns-2
-returns-2 c = simp (c .settle .ensures, c .before .after-write .ensures) (write-live _ _ (c .before .before .before .before .is-down .ensures) (c .before .before .before .if1 .left))
+returns-2 c = simp (c .settle .ensures, c .before .after-write .ensures) (write-live _ _ (c .before .before .before .before .before .is-down .ensures) (c .before .before .before .before .if1 .left))
 
 pub write-spec : {M : Type 1} → statement M
 write-spec =

@@ -8,8 +8,8 @@ use Rattle.tables.specs.declared.WriteNo.{WriteNo}
 use Rattle.refusals.proofs.number_at.Statement.{statement}
 use Rattle.refusals.proofs.number_at.Tie as tie
 
-element-copy-out-result : tie.Need-element-copy-out-result
-element-copy-out-result c = search needs
+array-copy-out-result : tie.Need-array-copy-out-result
+array-copy-out-result c = search needs
 
 returns : tie.Need-returns
 returns c = search needs
@@ -18,4 +18,4 @@ returns-2 : tie.Need-returns-2
 returns-2 c = let long : length (c .before .args .t1) ≡ 7 = c .before .good .0 .1 .0 .1 in sym (ap (λ (w : WriteNo). w .0) (List·getD-eq-default (c .before .args .t1) noWrite (omega (arith, c .if1 .left))))
 
 pub number-at-spec : {M : Type 1} → statement M
-number-at-spec = tie.close (tie.spec element-copy-out-result returns returns-2)
+number-at-spec = tie.close (tie.spec array-copy-out-result returns returns-2)

@@ -10,10 +10,10 @@ use Rattle.tables.proofs.history_ok.Tie as tie
 use Rattle.tables.specs.Form.{unknownOk}
 
 abbrev Inv-loop : tie.InvT-loop
-Inv-loop high history ok₀ k₀ ok k = (high < k) × (ok ≡ allBelow k (unknownOk history high))
+Inv-loop history high ok₀ k₀ ok k = (high < k) × (ok ≡ allBelow k (unknownOk history high))
 
 abbrev μ-loop : tie.MeasureT-loop
-μ-loop high history ok₀ k₀ ok k = 201 - k
+μ-loop history high ok₀ k₀ ok k = 201 - k
 
 wide-requires : tie.Need-wide-requires Inv-loop μ-loop
 wide-requires c κs = search needs

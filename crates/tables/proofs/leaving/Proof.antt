@@ -10,7 +10,7 @@ use Rattle.tables.proofs.leaving.Tie as tie
 use Rattle.tables.specs.Lines.{leading, leaving}
 
 abbrev Inv-loop : tie.InvT-loop
-Inv-loop x l len m₀ m = (m ≤ l .len) × (m + leading l x (l .len - m) m ≡ leaving l x)
+Inv-loop x l len m₀ m = (m ≤ l .len) × (m + leading l (x .0) (l .len - m) m ≡ leaving l (x .0))
 
 abbrev μ-loop : tie.MeasureT-loop
 μ-loop x l len m₀ m = l .len - m
@@ -28,7 +28,7 @@ element-copy-out-if2 : tie.Need-element-copy-out-if2 Inv-loop μ-loop
 element-copy-out-if2 c = omega (arith, c .wide .ensures)
 
 returns-2 : tie.Need-returns-2 Inv-loop μ-loop
-returns-2 c = sym (leaving-here _ _ _ (c .before .before .before .loop-test .taken) (simp (c .before .wide .ensures .0) at (c .if2 .taken))) ∙ c .before .before .before .before .loop .inv .1
+returns-2 c = sym (leaving-here _ _ _ (c .before .before .before .before .loop-test .taken) (simp (c .before .before .wide .ensures .0) at (c .if2 .taken))) ∙ c .before .before .before .before .before .loop .inv .1
 
 add-m : tie.Need-add-m Inv-loop μ-loop
 add-m c = search needs
@@ -37,7 +37,7 @@ loop-less : tie.Need-loop-less Inv-loop μ-loop
 loop-less c = search needs
 
 loop-again : tie.Need-loop-again Inv-loop μ-loop
-loop-again c = (omega arith, leaving-next _ _ _ (c .before .before .before .loop-test .taken) (simp (c .before .wide .ensures .0) at (c .if2 .left)) ∙ c .before .before .before .before .loop .inv .1)
+loop-again c = (omega arith, leaving-next _ _ _ (c .before .before .before .before .loop-test .taken) (simp (c .before .before .wide .ensures .0) at (c .if2 .left)) ∙ c .before .before .before .before .before .loop .inv .1)
 
 returns-3 : tie.Need-returns-3 Inv-loop μ-loop
 returns-3 c = sym (leaving-end _ _ _ (c .loop-test .left)) ∙ c .before .loop .inv .1

@@ -12,10 +12,10 @@ use Rattle.tables.specs.Form.{entryOk, lineOk}
 use Rattle.tables.specs.Places.{wAt}
 
 abbrev Inv-loop : tie.InvT-loop
-Inv-loop low high l len ok₀ before₀ place₀ k₀ ok before place k = (k ≤ 100) × (place ≡ k) × (before ≡ wAt (l .sn) (k - 1)) × (ok ≡ allBelow k (entryOk l low high))
+Inv-loop l len low high ok₀ before₀ place₀ k₀ ok before place k = (k ≤ 100) × (place ≡ k) × (before ≡ wAt (l .sn) (k - 1)) × (ok ≡ allBelow k (entryOk l low high))
 
 abbrev μ-loop : tie.MeasureT-loop
-μ-loop low high l len ok₀ before₀ place₀ k₀ ok before place k = 100 - k
+μ-loop l len low high ok₀ before₀ place₀ k₀ ok before place k = 100 - k
 
 element-copy-out-before : tie.Need-element-copy-out-before Inv-loop μ-loop
 element-copy-out-before c = search needs

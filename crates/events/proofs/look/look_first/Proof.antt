@@ -11,8 +11,8 @@ wide-requires c κs = search needs
 sub-i : tie.Need-sub-i
 sub-i c = search needs
 
-element-copy-out-has-r : tie.Need-element-copy-out-has-r
-element-copy-out-has-r c = search needs
+array-copy-out-has-r : tie.Need-array-copy-out-has-r
+array-copy-out-has-r c = search needs
 
 has-r-requires : tie.Need-has-r-requires
 has-r-requires c κs = search needs
@@ -24,13 +24,13 @@ element-copy-out-look-second : tie.Need-element-copy-out-look-second
 element-copy-out-look-second c = search needs
 
 look-second-requires : tie.Need-look-second-requires
-look-second-requires c κs = own-low (c .before .before .before .before .before .before .args .t1) _ (c .before .before .before .before .before .wide .ensures .0) (c .before .before .before .before .before .before .pre .own-top)
+look-second-requires c κs = own-low (c .before .before .before .before .before .before .before .args .t1) _ (c .before .before .before .before .before .before .wide .ensures .0) (c .before .before .before .before .before .before .before .pre .own-top)
 
 returns : tie.Need-returns
-returns c = c .look-second .ensures ∙ first-ends _ _ (c .before .before .before .before .before .before .wide .ensures .0) _ _ (c .before .before .before .enough .ensures) (c .before .before .before .before .has-r .ensures) (c .before .before .if1 .taken)
+returns c = c .look-second .ensures ∙ first-ends _ _ (c .before .before .before .before .before .before .before .wide .ensures .0) _ _ (c .before .before .before .enough .ensures) (c .before .before .before .before .has-r .ensures) (c .before .before .if1 .taken)
 
 returns-2 : tie.Need-returns-2
-returns-2 c = first-goes-on _ _ (c .before .before .before .before .wide .ensures .0) _ _ (c .before .enough .ensures) (c .before .before .has-r .ensures) (c .if1 .left)
+returns-2 c = first-goes-on _ _ (c .before .before .before .before .before .wide .ensures .0) _ _ (c .before .enough .ensures) (c .before .before .has-r .ensures) (c .if1 .left)
 
 pub look-first-spec : {M : Type 1} → statement M
 look-first-spec =
@@ -38,7 +38,7 @@ look-first-spec =
     (tie.spec
     wide-requires
     sub-i
-    element-copy-out-has-r
+    array-copy-out-has-r
     has-r-requires
     enough-requires
     element-copy-out-look-second

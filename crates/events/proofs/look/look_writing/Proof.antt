@@ -10,8 +10,8 @@ wide-requires c κs = search needs
 sub-i : tie.Need-sub-i
 sub-i c = search needs
 
-element-copy-out-has-w : tie.Need-element-copy-out-has-w
-element-copy-out-has-w c = search needs
+array-copy-out-has-w : tie.Need-array-copy-out-has-w
+array-copy-out-has-w c = search needs
 
 has-w-requires : tie.Need-has-w-requires
 has-w-requires c κs = search needs
@@ -26,10 +26,10 @@ array-copy-out-t16 : tie.Need-array-copy-out-t16
 array-copy-out-t16 c = search needs
 
 returns : tie.Need-returns
-returns c = simp (c .before .with-operation .ensures) (writing-ends _ _ (c .before .before .before .before .before .before .wide .ensures .0) _ _ (c .before .before .before .enough .ensures) (c .before .before .before .before .has-w .ensures) (c .before .before .if1 .taken))
+returns c = simp (c .before .with-operation .ensures) (writing-ends _ _ (c .before .before .before .before .before .before .before .wide .ensures .0) _ _ (c .before .before .before .enough .ensures) (c .before .before .before .before .has-w .ensures) (c .before .before .if1 .taken))
 
 returns-2 : tie.Need-returns-2
-returns-2 c = writing-goes-on _ _ (c .before .before .before .before .wide .ensures .0) _ _ (c .before .enough .ensures) (c .before .before .has-w .ensures) (c .if1 .left)
+returns-2 c = writing-goes-on _ _ (c .before .before .before .before .before .wide .ensures .0) _ _ (c .before .enough .ensures) (c .before .before .has-w .ensures) (c .if1 .left)
 
 pub look-writing-spec : {M : Type 1} → statement M
 look-writing-spec =
@@ -37,7 +37,7 @@ look-writing-spec =
     (tie.spec
     wide-requires
     sub-i
-    element-copy-out-has-w
+    array-copy-out-has-w
     has-w-requires
     enough-requires
     with-operation-requires

@@ -18,7 +18,7 @@ element-copy-out-y : tie.Need-element-copy-out-y
 element-copy-out-y c = search needs
 
 add-has-w : tie.Need-add-has-w
-add-has-w c = omega (arith, subst (λ (i : ℕ). wAt (c .before .before .args .t1 .w) (i - 1) < 200) (sym (c .before .wide .ensures .0)) (c .before .before .pre .1))
+add-has-w c = omega (arith, subst (λ (i : ℕ). wAt (c .before .before .before .before .args .t1 .w) (i - 1) < 200) (sym (c .before .before .before .wide .ensures .0)) (c .before .before .before .before .pre .1))
 
 array-set-from-ws : tie.Need-array-set-from-ws
 array-set-from-ws c = search needs
@@ -27,11 +27,11 @@ has-w-requires : tie.Need-has-w-requires
 has-w-requires c κs = search needs
 
 add-t16 : tie.Need-add-t16
-add-t16 c = omega (arith, subst (λ (i : ℕ). wAt (c .before .before .before .args .t1 .w) (i - 1) < 200) (sym (c .before .before .wide .ensures .0)) (c .before .before .before .pre .1))
+add-t16 c = omega (arith, subst (λ (i : ℕ). wAt (c .before .before .before .before .before .before .args .t1 .w) (i - 1) < 200) (sym (c .before .before .before .before .before .wide .ensures .0)) (c .before .before .before .before .before .before .pre .1))
 
 returns : tie.Need-returns
 unfolding spread learned
-returns c = simp (c .has-w .ensures, c .before .before .wide .ensures .0)
+returns c = simp (c .before .has-w .ensures, c .before .before .before .before .before .wide .ensures .0)
 
 pub spread-spec : {M : Type 1} → statement M
 spread-spec =

@@ -22,8 +22,8 @@ spread-requires c κs = takes-learn (c .before .before .args .t1) _ (c .before .
 learned-requires : tie.Need-learned-requires
 learned-requires c κs = takes-learn (c .before .before .before .args .t1) _ (c .before .before .before .args .v) _ (c .before .before .wide .ensures .0) (c .before .before .before .pre) (c .before .if1 .taken)
 
-add-reached : tie.Need-add-reached
-add-reached c = search needs
+add-t20 : tie.Need-add-t20
+add-t20 c = search needs
 
 reached-requires : tie.Need-reached-requires
 reached-requires c κs = search needs
@@ -31,23 +31,23 @@ reached-requires c κs = search needs
 returns : tie.Need-returns
 returns c = simp (c .reached .ensures, c .before .learned .ensures, c .before .before .spread .ensures) (take-learns (c .before .before .before .before .before .args .t1) _ _ _ (c .before .before .before .before .wide .ensures .0) (c .before .before .before .if1 .taken))
 
-add-reached-2 : tie.Need-add-reached-2
-add-reached-2 c = search needs
+add-if2 : tie.Need-add-if2
+add-if2 c = search needs
 
 reached-requires-2 : tie.Need-reached-requires-2
 reached-requires-2 c κs = search needs
 
-add-if2 : tie.Need-add-if2
-add-if2 c = search needs
+add-if2-2 : tie.Need-add-if2-2
+add-if2-2 c = search needs
 
 only-place-requires : tie.Need-only-place-requires
 only-place-requires c κs = search needs
 
-add-t23 : tie.Need-add-t23
-add-t23 c = search needs
+add-t25 : tie.Need-add-t25
+add-t25 c = search needs
 
-add-value-of : tie.Need-add-value-of
-add-value-of c = search needs
+add-t29 : tie.Need-add-t29
+add-t29 c = search needs
 
 value-of-requires : tie.Need-value-of-requires
 value-of-requires c κs = takes-lag (c .before .before .before .before .before .args .t1) _ (c .before .before .before .before .before .args .v) _ (c .before .before .before .before .wide .ensures .0) (c .before .before .before .before .before .pre) (c .before .if2 .taken)
@@ -71,15 +71,15 @@ take-spec =
     element-copy-out-x
     spread-requires
     learned-requires
-    add-reached
+    add-t20
     reached-requires
     returns
-    add-reached-2
-    reached-requires-2
     add-if2
+    reached-requires-2
+    add-if2-2
     only-place-requires
-    add-t23
-    add-value-of
+    add-t25
+    add-t29
     value-of-requires
     returns-2
     no-cast-requires

@@ -36,12 +36,12 @@ with-line-requires c κs = search needs
 add-t12 : tie.Need-add-t12
 add-t12 c = search needs
 
-cast-t18 : tie.Need-cast-t18
-cast-t18 c = search needs
+cast-t21 : tie.Need-cast-t21
+cast-t21 c = search needs
 
 returns : tie.Need-returns
 unfolding takeRule released
-returns c = simp (c .with-line .ensures, c .before .without .ensures, c .before .before .leaving .ensures, c .before .before .before .before .before .before .take-held .ensures, c .before .before .before .before .before .before .before .before .before .take .ensures)
+returns c = simp (c .with-line .ensures, c .before .without .ensures, c .before .before .leaving .ensures, c .before .before .before .before .before .before .before .take-held .ensures, c .before .before .before .before .before .before .before .before .before .before .take .ensures)
 
 pub take-rule-spec : {M : Type 1} → statement M
 take-rule-spec =
@@ -56,5 +56,5 @@ take-rule-spec =
     without-requires
     with-line-requires
     add-t12
-    cast-t18
+    cast-t21
     returns)
