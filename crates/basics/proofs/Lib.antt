@@ -3,3 +3,4 @@ pub mod Ones
 pub mod Below
 pub mod Lists
 pub mod Refusals
+pub mod Outcomes

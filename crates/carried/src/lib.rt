@@ -8,6 +8,7 @@ ghost use Rattle.basics.specs.Below.{oneIf, listBelow};
 ghost use Rattle.codec.specs.Numbers.{numberAt};
 ghost use Rattle.carried.specs.Laid.{Laid};
 ghost use Rattle.carried.specs.Panels.{writeNoFrom, readNoFrom, holdFrom, lineFrom, operationFrom, valuePlace, panelFrom, headBytes, wBytes, rBytes, holdBytes, heldBytes, lineBytes, linesBytes, operationBytes, valuesBytes, panelBytes};
+use basics::byte_if;
 use form::Operation;
 use form::Tables;
 use tables::Hold;
@@ -176,17 +177,11 @@ fn put_r(rs: [ReadNo; 7], out: &mut [u8])
     }
 }
 
-fn one_if(b: bool) -> u8
-    ensures { λ r. ⌜ r ≡ oneIf b ⌝ }
-{
-    if b { 1 } else { 0 }
-}
-
 fn put_hold(h: Hold, at: usize, out: &mut [u8])
     requires { ⌜ at < 2000 ⌝ }
     ensures { λ _. ⌜ Laid (now (out .entry)) at (holdBytes h) (now (out .exit)) ⌝ }
 {
-    codec::put_byte(out, at, one_if(h.full));
+    codec::put_byte(out, at, byte_if(h.full));
     codec::put_word(out, at + 1, h.value);
 }
 

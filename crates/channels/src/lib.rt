@@ -6,12 +6,12 @@ ghost use Rattle.basics.specs.Choice.{ite};
 ghost use Rattle.messages.specs.Sends.{castOf, proceedsTo};
 ghost use Rattle.channels.specs.Channels.{has, valueIn, room, joined, less, slotOk, channelOk, channelEmpty, rowOk, emptyRow, channelAt, noChannel};
 ghost use Rattle.channels.specs.Posting.{post, posts, postedAll, withChannel, taken};
+use basics::both;
+use basics::choose;
+use basics::wide;
 use messages::Cast;
 use messages::Sends;
 use tables::Hold;
-use tables::both;
-use tables::choose;
-use tables::wide;
 
 // One ordered pair's channel: a WRITE of each bit or none, and how many READs and PROCEEDs are in flight.
 pub struct Channel {

@@ -37,6 +37,8 @@ use Rattle.steps.proofs.Delivering.{DeliverMoves, deliver-moves}
 use Rattle.steps.proofs.WholeDrain.{drained-out-of-form}
 use Rattle.steps.proofs.Powers.{Lost, lose-lost}
 use Rattle.steps.proofs.Refusing.{OneOf}
+use Rattle.listing.specs.Listing.{listingOf}
+use Rattle.listing.proofs.Cases as sample
 use Rattle.runs.specs.Runs.{Step, does, after, entries, writes, reads, deliveries}
 use Rattle.runs.specs.Runs.Step.{lose}
 use Rattle.runs.specs.Claims.{Still, AllOrdinary, mostDeliveries}
@@ -144,3 +146,8 @@ module _ (n t writer v : ℕ) (ok : fits n t writer ≡ true) (es : List Step) w
 
   pub drain-ends-operations : (i : ℕ) → i < n → live (drained end .network) i ≡ true → tablesAt (drained end .network) i .operation ≡ Idle
   drain-ends-operations = run.drain-ends n t writer v ok es
+
+-- ---- The description's sample: its schedule has its listing, computed from the definitions.
+
+pub sample-listed : listingOf sample.schedule ≡ sample.shown
+sample-listed = sample.sample-listed

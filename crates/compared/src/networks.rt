@@ -11,6 +11,7 @@ ghost use Rattle.carried.specs.Laid.{Laid};
 ghost use Rattle.conveyed.specs.Networks.{networkFrom, networkBytes};
 ghost use Rattle.compared.specs.Stepping.{steppedBytes, drainedBytes, foundBytes, soughtBytes};
 use crate::put_answer;
+use basics::byte_if;
 use house::Found;
 use steps::Stepped;
 
@@ -23,16 +24,10 @@ fn put_stepped(o: Stepped, out: &mut [u8])
     put_answer(a, 11557, out);
 }
 
-fn one_if(b: bool) -> u8
-    ensures { λ r. ⌜ r ≡ oneIf b ⌝ }
-{
-    if b { 1 } else { 0 }
-}
-
 fn put_found(f: Found, out: &mut [u8])
     ensures { λ _. ⌜ Laid (now (out .entry)) 1 (foundBytes f) (now (out .exit)) ⌝ }
 {
-    codec::put_byte(out, 1, one_if(f.any));
+    codec::put_byte(out, 1, byte_if(f.any));
     codec::put_byte(out, 2, f.sender);
     codec::put_byte(out, 3, f.receiver);
     codec::put_byte(out, 4, f.kind);
@@ -59,7 +54,7 @@ pub extern "C" fn compared_network_in_form(tables: &[u8]) -> u8
     ensures { λ r. ⌜ r ≡ oneIf (netForm (networkFrom (now (tables .entry)))) ⌝ }
 {
     let s = conveyed::network_from(tables);
-    one_if(network::in_form(s))
+    byte_if(network::in_form(s))
 }
 
 #[no_mangle]

@@ -8,6 +8,7 @@ ghost use Rattle.basics.specs.Below.{oneIf, listBelow};
 ghost use Rattle.carried.specs.Laid.{Laid};
 ghost use Rattle.carried.specs.Panels.{holdFrom, holdBytes, panelBytes};
 ghost use Rattle.conveyed.specs.Networks.{memberFrom, flagFrom, channelFrom, rowFrom, networkFrom, membersBytes, downBytes, channelBytes, rowBytes, rowsBytes, networkBytes};
+use basics::byte_if;
 use channels::Channel;
 use channels::Row;
 use house::Network;
@@ -137,16 +138,10 @@ fn put_members(ps: [Panel; 7], out: &mut [u8])
     }
 }
 
-fn one_if(b: bool) -> u8
-    ensures { λ r. ⌜ r ≡ oneIf b ⌝ }
-{
-    if b { 1 } else { 0 }
-}
-
 fn put_flag(b: bool, at: usize, out: &mut [u8])
     ensures { λ _. ⌜ Laid (now (out .entry)) at (oneIf b ∷ []) (now (out .exit)) ⌝ }
 {
-    codec::put_byte(out, at, one_if(b));
+    codec::put_byte(out, at, byte_if(b));
 }
 
 fn put_down(down: [bool; 7], out: &mut [u8])

@@ -7,6 +7,7 @@ ghost use Rattle.refusals.specs.Refusals.Event.{write, read, writeFrom, readFro
 ghost use Rattle.events.specs.Events.{happens};
 ghost use Rattle.panel.specs.Calls.{called};
 ghost use Rattle.edges.specs.Columns.{columns, columnsOf, messageAt, poured, parcelOf, Fitting};
+use basics::least;
 use events::Done;
 use messages::Sends;
 use panel::Outcome;
@@ -46,12 +47,6 @@ fn columns_of(s: Sends) -> Columns
         values,
         count,
     }
-}
-
-fn least(a: usize, b: usize) -> usize
-    ensures { λ r. ⌜ r ≡ min a b ⌝ }
-{
-    if a < b { a } else { b }
 }
 
 fn pack(d: Done, room: usize) -> Parcel

@@ -11,10 +11,10 @@ use crate::Answer;
 use crate::Done;
 use crate::Looked;
 use crate::Ruled;
+use basics::wide;
 use form::Operation;
 use form::Tables;
 use tables::WriteNo;
-use tables::wide;
 
 pub(crate) fn with_operation(p: Tables, o: Operation) -> Tables
     ensures { λ q. ⌜ q ≡ setOperation p o ⌝ }

@@ -13,6 +13,7 @@ use crate::Done;
 use crate::Ruled;
 use crate::look::looked_at;
 use crate::look::with_operation;
+use basics::wide;
 use form::Operation;
 use form::Tables;
 use messages::Cast;
@@ -25,7 +26,6 @@ use refusals::refused_write;
 use tables::Line;
 use tables::ReadNo;
 use tables::WriteNo;
-use tables::wide;
 
 pub(crate) fn refused_by(p: Tables, k: u8) -> Done
     ensures { λ d. ⌜ d ≡ refusedBy p k ⌝ }

@@ -17,6 +17,7 @@ use crate::rules::refused_by;
 use crate::rules::sends_proceeds;
 use crate::rules::spread;
 use crate::rules::with_line;
+use basics::wide;
 use form::Tables;
 use messages::Cast;
 use messages::Sends;
@@ -24,7 +25,6 @@ use refusals::refused_write_from;
 use refusals::right_bit;
 use tables::Hold;
 use tables::WriteNo;
-use tables::wide;
 
 // line 18
 fn reached(p: Tables, k: usize, x: WriteNo) -> Tables

@@ -5,13 +5,13 @@ ghost use lib.Dec.{leb, eqb};
 ghost use Rattle.basics.specs.Below.{allBelow};
 ghost use Rattle.form.specs.Form.{fits, isPanel, placeWith, placeOk, operationOk, inForm, fresh, emptyLine};
 ghost use Rattle.form.specs.Asked.{Sized};
+use basics::both;
+use basics::choose;
+use basics::wide;
 use tables::Hold;
 use tables::Line;
 use tables::ReadNo;
 use tables::WriteNo;
-use tables::both;
-use tables::choose;
-use tables::wide;
 
 // What a panel is doing: nothing; writing (line 3); reading, first wait (line 7); reading, second wait with its sn (line 9).
 pub enum Operation {

@@ -12,12 +12,13 @@ ghost use Rattle.house.specs.Places.{rowAt, tablesAt};
 ghost use Rattle.house.specs.NetForm.{memberWith, placeWith, placeOk, channelsOk, downsIn, mayBeDown, netForm};
 ghost use Rattle.house.specs.Search.{flying, firstIn};
 ghost use Rattle.house.specs.Whole.{Whole};
+use basics::both;
+use basics::one_if;
+use basics::wide;
 use channels::Row;
 use form::Tables;
 use panel::Panel;
 use tables::Line;
-use tables::both;
-use tables::wide;
 
 // Place 0 is panel 1; a row holds the channels that leave its panel.
 pub struct Network {
@@ -137,12 +138,6 @@ pub fn in_form(s: Network) -> bool
     let few = may_be_down(f.t, downs(down));
     let places = places_ok(s);
     both(1 <= f.n, both(places, both(few, rows)))
-}
-
-fn one_if(b: bool) -> usize
-    ensures { λ r. ⌜ (r ≡ oneIf b) × (r ≤ 1) ⌝ }
-{
-    if b { 1 } else { 0 }
 }
 
 // ---- the search

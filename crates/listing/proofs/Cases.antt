@@ -63,7 +63,7 @@ unfolding
 shows bytes = listingOf bytes
 
 -- `00 03 01 01 00 00 02 BC`, `01 00 00 02 8A`, `04 01 02`, `04 02 01`, `02 03`, `08`
-schedule : List ℕ
+pub schedule : List ℕ
 schedule =
     0 ∷ 3 ∷ 1 ∷ 1 ∷ 0 ∷ 0 ∷ 2 ∷ 188
     ∷ 1 ∷ 0 ∷ 0 ∷ 2 ∷ 138
@@ -73,7 +73,7 @@ schedule =
     ∷ 8
     ∷ []
 
-shown : List ℕ
+pub shown : List ℕ
 shown =
     115 ∷ 116 ∷ 101 ∷ 112 ∷ 32 ∷ 107 ∷ 105 ∷ 110 ∷ 100 ∷ 32 ∷ 97 ∷ 32 ∷ 98 ∷ 32 ∷ 97 ∷ 110 ∷ 115 ∷ 119 ∷ 101 ∷ 114 ∷ 32 ∷ 114 ∷ 101 ∷ 115 ∷ 117 ∷ 108 ∷ 116 ∷ 10
     ∷ 49 ∷ 32 ∷ 48 ∷ 32 ∷ 45 ∷ 32 ∷ 45 ∷ 32 ∷ 48 ∷ 32 ∷ 45 ∷ 10
@@ -95,6 +95,10 @@ shown =
 listing-shown : shows schedule ≡ shown
 unfolding shows schedule shown
 listing-shown = refl
+
+pub sample-listed : listingOf schedule ≡ shown
+unfolding shows
+sample-listed = listing-shown
 
 schedules : List (List ℕ)
 schedules =

@@ -28,14 +28,14 @@ use Rattle.steps.proofs.Settling.{checked-in-form}
 use Rattle.steps.proofs.WholeDrain.{sought-is}
 use Rattle.parts.specs.declared.Step.{Step}
 use Rattle.parts.specs.declared.Moved.{Moved}
-use Rattle.parts.specs.Acting.{actorOf, senderOf, moved}
+use Rattle.parts.specs.Acting.{deliveryStep, actorOf, senderOf, moved}
 use Rattle.parts.specs.Steps.{partsAt, putBack, stepIn}
 use Rattle.parts.proofs.Back.{back, moved-back, still-back}
 use Rattle.listing.specs.declared.Stand.{Stand}
 use Rattle.listing.specs.declared.Turn.{Turn}
 use Rattle.listing.specs.Entries.{entry, unread, told, drain, stepped}
 use Rattle.listing.specs.Machine.{Bench, noLine, drainStep, drainLine, recordLine, nextLine}
-use Rattle.listing.specs.Turning.{benchAt, noMore, lastLine, onward, midDrain, withLine, quiet, steps, deliveryStep, stepOf, drainTurn, recordTurn, nextTurn, afterTurn}
+use Rattle.listing.specs.Turning.{benchAt, noMore, lastLine, onward, midDrain, withLine, quiet, steps, stepOf, drainTurn, recordTurn, nextTurn, afterTurn}
 
 module _ (s : Network) where
   -- turn t gives the bench c

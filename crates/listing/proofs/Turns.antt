@@ -21,11 +21,12 @@ use Rattle.house.specs.declared.Found.{Found}
 use Rattle.house.specs.Search.{firstIn}
 use Rattle.house.proofs.Searching.{found}
 use Rattle.steps.specs.declared.Ready.{Ready}
+use Rattle.parts.specs.Acting.{deliveryStep, stepAt}
 use Rattle.listing.specs.declared.Stand.{Stand}
 use Rattle.listing.specs.declared.Turn.{Turn}
 use Rattle.listing.specs.Entries.{shownBy, entry, unread, told, deliveryOf, drain}
 use Rattle.listing.specs.Machine.{noLine, silent, stops, goesOn, firstRecord, madeBy, opened}
-use Rattle.listing.specs.Turning.{noMore, lastLine, onward, midDrain, withLine, quiet, steps, deliveryStep, stepOf, drainTurn, recordTurn, nextTurn, afterTurn}
+use Rattle.listing.specs.Turning.{noMore, lastLine, onward, midDrain, withLine, quiet, steps, stepOf, drainTurn, recordTurn, nextTurn, afterTurn}
 
 -- ---- panel numbers shown
 
@@ -79,17 +80,17 @@ kind-few s e any = omega (arith, found s (ap (λ (x : Found). x .any) (sym e) �
 -- ---- the step of a record
 
 module _ (r : Record) where
-  pub step-writes : r .kind ≡ 1 → record { what = 1; kind = 0; from = 0; at = 0; value = r .value } ≡ stepOf r
+  pub step-writes : r .kind ≡ 1 → stepAt 1 0 (r .value) ≡ stepOf r
   unfolding stepOf
   step-writes e = sym (ite-true _ _ (eq-eqb _ _ e))
 
   module _ (a : r .kind ≢ 1) where
-    pub step-reads : r .kind ≡ 2 → record { what = 2; kind = 0; from = 0; at = r .a; value = 0 } ≡ stepOf r
+    pub step-reads : r .kind ≡ 2 → stepAt 2 (r .a) 0 ≡ stepOf r
     unfolding stepOf
     step-reads e = sym (ite-false _ _ (ne-eqb _ _ a) ∙ ite-true _ _ (eq-eqb _ _ e))
 
     module _ (b : r .kind ≢ 2) where
-      pub step-loses : r .kind ≡ 7 → record { what = 4; kind = 0; from = 0; at = r .a; value = 0 } ≡ stepOf r
+      pub step-loses : r .kind ≡ 7 → stepAt 4 (r .a) 0 ≡ stepOf r
       unfolding stepOf
       step-loses e = sym (ite-false _ _ (ne-eqb _ _ a) ∙ ite-false _ _ (ne-eqb _ _ b) ∙ ite-true _ _ (eq-eqb _ _ e))
 

@@ -15,6 +15,7 @@ use Rattle.events.specs.declared.Answer.{Answer}
 use Rattle.house.specs.declared.Network.{Network}
 use Rattle.house.specs.declared.Found.{Found}
 use Rattle.parts.specs.declared.Step.{Step}
+use Rattle.parts.specs.Acting.{deliveryStep, stepAt}
 use Rattle.listing.specs.declared.Stand.{Stand}
 use Rattle.listing.specs.declared.Turn.{Turn}
 use Rattle.listing.specs.Entries.{entry, unread, told, deliveryOf, drain}
@@ -54,15 +55,12 @@ quiet b = record { step = noStep; tells = false; «record» = drain; stand = b }
 abbrev pub steps : Step → Record → Stand → Turn
 steps m r b = record { step = m; tells = true; «record» = r; stand = b }
 
-abbrev pub deliveryStep : ℕ → ℕ → ℕ → Step
-deliveryStep k i j = record { what = 3; kind = k; from = i; at = j; value = 0 }
-
 -- the step of a record other than set-up and drain
 unfoldable pub stepOf : Record → Step
 stepOf r =
-    ite (eqb (r .kind) 1) (record { what = 1; kind = 0; from = 0; at = 0; value = r .value })
-    (ite (eqb (r .kind) 2) (record { what = 2; kind = 0; from = 0; at = r .a; value = 0 })
-    (ite (eqb (r .kind) 7) (record { what = 4; kind = 0; from = 0; at = r .a; value = 0 })
+    ite (eqb (r .kind) 1) (stepAt 1 0 (r .value))
+    (ite (eqb (r .kind) 2) (stepAt 2 (r .a) 0)
+    (ite (eqb (r .kind) 7) (stepAt 4 (r .a) 0)
     (deliveryStep (r .kind - 3) (r .a) (r .b))))
 
 -- in a drain that has found f

@@ -8,8 +8,9 @@ ghost use Rattle.house.specs.Search.{flying, firstIn};
 ghost use Rattle.listing.specs.Entries.{shownBy, entry, unread, told, drain};
 ghost use Rattle.listing.specs.Listing.{numberedAs, wholeText, longest, listing};
 ghost use Rattle.listing.specs.Machine.{noLine, firstRecord, opened};
-ghost use Rattle.listing.specs.Turning.{benchAt, noMore, lastLine, onward, midDrain, quiet, steps, deliveryStep, stepOf, drainTurn, recordTurn, nextTurn, afterTurn};
+ghost use Rattle.listing.specs.Turning.{benchAt, noMore, lastLine, onward, midDrain, quiet, steps, stepOf, drainTurn, recordTurn, nextTurn, afterTurn};
 ghost use Rattle.listing.specs.Putting.{Put};
+use basics::both;
 use channels::Row;
 use events::Answer;
 use house::Network;
@@ -19,7 +20,6 @@ use schedule::Read;
 use schedule::Record;
 use steps::Ready;
 use tables::WriteNo;
-use tables::both;
 use text::Line;
 
 // What the call answers: 0 and how many bytes it wrote, or the number of a refusal.
@@ -232,46 +232,21 @@ fn steps(m: Step, r: Record, b: Stand) -> Turn
     }
 }
 
-// A start of a write or a read, or power loss.
-fn step_at(what: u8, i: u8, v: u32) -> Step
-    ensures { λ m. ⌜ m ≡ record { what = what; kind = 0; from = 0; at = i; value = v } ⌝ }
-{
-    Step {
-        what,
-        kind: 0,
-        from: 0,
-        at: i,
-        value: v,
-    }
-}
-
-fn delivery_step(kind: u8, i: u8, j: u8) -> Step
-    ensures { λ m. ⌜ m ≡ deliveryStep kind i j ⌝ }
-{
-    Step {
-        what: 3,
-        kind,
-        from: i,
-        at: j,
-        value: 0,
-    }
-}
-
 // The step of a record other than set-up and drain.
 fn step_of(r: Record) -> Step
     requires { ⌜ r .kind ≢ 0 ⌝ }
     ensures { λ m. ⌜ m ≡ stepOf r ⌝ }
 {
     if r.kind == 1 {
-        return step_at(1, 0, r.value);
+        return parts::step_at(1, 0, r.value);
     }
     if r.kind == 2 {
-        return step_at(2, r.a, 0);
+        return parts::step_at(2, r.a, 0);
     }
     if r.kind == 7 {
-        return step_at(4, r.a, 0);
+        return parts::step_at(4, r.a, 0);
     }
-    delivery_step(r.kind - 3, r.a, r.b)
+    parts::delivery(r.kind - 3, r.a, r.b)
 }
 
 // The next delivery of a drain, or its own line.
@@ -291,7 +266,7 @@ fn drain_turn(rows: [Row; 7], down: [bool; 7], at: usize, count: u32) -> Turn
         c: 0,
         value: 0,
     };
-    let m = delivery_step(f.kind, f.sender, f.receiver);
+    let m = parts::delivery(f.kind, f.sender, f.receiver);
     steps(m, r, mid_drain(no_line(), at, count + 1))
 }
 

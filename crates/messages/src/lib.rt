@@ -6,6 +6,7 @@ ghost use lib.ListN.{set};
 ghost use Rattle.basics.specs.Choice.{ite};
 ghost use Rattle.messages.specs.Sends.{noCast, noSends, castOf, proceedsTo};
 ghost use Rattle.messages.specs.Area.{roomOf, laying, Further};
+use basics::least;
 
 // The same message to each marked panel; place 0 is panel 1.
 pub struct Cast {
@@ -43,25 +44,11 @@ pub fn no_sends() -> Sends
     }
 }
 
-fn least(a: usize, b: usize) -> usize
-    ensures { λ r. ⌜ r ≡ min a b ⌝ }
-{
-    if a < b { a } else { b }
-}
-
 // How many messages the three slices have places for.
 pub fn room_of(receivers: &[u8], kinds: &[u8], values: &[u32]) -> usize
     ensures { λ r. ⌜ r ≡ roomOf (record { receivers = now (receivers .entry); kinds = now (kinds .entry); values = now (values .entry) }) ⌝ }
 {
     least(receivers.len(), least(kinds.len(), values.len()))
-}
-
-fn put_byte(area: &mut [u8], at: usize, b: u8)
-    ensures { λ _. ⌜ now (area .exit) ≡ set (now (area .entry)) at b ⌝ }
-{
-    if at < area.len() {
-        area[at] = b;
-    }
 }
 
 fn put_value(area: &mut [u32], at: usize, v: u32)
@@ -87,8 +74,8 @@ fn put_if(
     ensures { λ r. ⌜ Further (record { count = at; area = record { receivers = now (receivers .entry); kinds = now (kinds .entry); values = now (values .entry) } }) (ite b (record { to = j; kind = k; value = v } ∷ []) []) (record { count = r; area = record { receivers = now (receivers .exit); kinds = now (kinds .exit); values = now (values .exit) } }) ⌝ }
 {
     if b {
-        put_byte(receivers, at, j);
-        put_byte(kinds, at, k);
+        codec::put_byte(receivers, at, j);
+        codec::put_byte(kinds, at, k);
         put_value(values, at, v);
         return at + 1;
     }

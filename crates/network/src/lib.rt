@@ -73,31 +73,6 @@ fn step_in(s: Network, m: Step) -> Stepped
     }
 }
 
-fn delivery(kind: u8, i: u8, j: u8) -> Step
-    ensures { λ m. ⌜ m ≡ record { what = 3; kind = kind; from = i; at = j; value = 0 } ⌝ }
-{
-    Step {
-        what: 3,
-        kind,
-        from: i,
-        at: j,
-        value: 0,
-    }
-}
-
-// A start of a write or a read, or power loss.
-fn step_at(what: u8, i: u8, v: u32) -> Step
-    ensures { λ m. ⌜ m ≡ record { what = what; kind = 0; from = 0; at = i; value = v } ⌝ }
-{
-    Step {
-        what,
-        kind: 0,
-        from: 0,
-        at: i,
-        value: v,
-    }
-}
-
 // ---- drain
 
 fn drained_to(s: Network, k: u8, m: usize) -> Drained
@@ -130,7 +105,10 @@ fn drain_in(s: Network) -> Drained
         if !found.any {
             return drained_to(at, 0, count);
         }
-        let o = step_in(at, delivery(found.kind, found.sender, found.receiver));
+        let o = step_in(
+            at,
+            parts::delivery(found.kind, found.sender, found.receiver),
+        );
         let answer = o.answer;
         let k = parts::code_of(answer);
         if k != 0 {
@@ -199,7 +177,7 @@ pub fn write(s: Network, v: u32) -> Stepped
     if !house::in_form(s) {
         return refused(s, 2);
     }
-    step_in(s, step_at(1, 0, v))
+    step_in(s, parts::step_at(1, 0, v))
 }
 
 pub fn read(s: Network, i: u8) -> Stepped
@@ -208,7 +186,7 @@ pub fn read(s: Network, i: u8) -> Stepped
     if !house::in_form(s) {
         return refused(s, 2);
     }
-    step_in(s, step_at(2, i, 0))
+    step_in(s, parts::step_at(2, i, 0))
 }
 
 pub fn deliver(s: Network, kind: u8, i: u8, j: u8) -> Stepped
@@ -217,7 +195,7 @@ pub fn deliver(s: Network, kind: u8, i: u8, j: u8) -> Stepped
     if !house::in_form(s) {
         return refused(s, 2);
     }
-    step_in(s, delivery(kind, i, j))
+    step_in(s, parts::delivery(kind, i, j))
 }
 
 pub fn lose_power(s: Network, i: u8) -> Stepped
@@ -226,7 +204,7 @@ pub fn lose_power(s: Network, i: u8) -> Stepped
     if !house::in_form(s) {
         return refused(s, 2);
     }
-    step_in(s, step_at(4, i, 0))
+    step_in(s, parts::step_at(4, i, 0))
 }
 
 pub fn next_delivery(s: Network) -> Sought

@@ -25,6 +25,15 @@ use Rattle.parts.specs.declared.Step.{Step}
 use Rattle.parts.specs.declared.Parts.{Parts}
 use Rattle.parts.specs.declared.Moved.{Moved}
 
+-- ---- steps
+
+abbrev pub deliveryStep : ℕ → ℕ → ℕ → Step
+deliveryStep k i j = record { what = 3; kind = k; from = i; at = j; value = 0 }
+
+-- a start of a write or a read, or power loss
+abbrev pub stepAt : ℕ → ℕ → ℕ → Step
+stepAt what i v = record { what = what; kind = 0; from = 0; at = i; value = v }
+
 -- ---- places
 
 -- a place that a network has: panel i's, if it has one

@@ -10,13 +10,13 @@ ghost use Rattle.panel.specs.Calls.{after};
 ghost use Rattle.promise.specs.View.{codeOf};
 ghost use Rattle.house.specs.NetForm.{mayBeDown, downsIn};
 ghost use Rattle.steps.specs.Steps.{isPair, comes};
-ghost use Rattle.parts.specs.Acting.{placeWithin, actorOf, senderOf, refusedBy, withFrom, withDown, settled, written, begun, delivered, lost, moved};
+ghost use Rattle.parts.specs.Acting.{deliveryStep, stepAt, placeWithin, actorOf, senderOf, refusedBy, withFrom, withDown, settled, written, begun, delivered, lost, moved};
+use basics::both;
+use basics::wide;
 use channels::Row;
 use events::Answer;
 use panel::Next;
 use panel::Panel;
-use tables::both;
-use tables::wide;
 
 // What a step is: 1 a start of a write of `value`, 2 of a read by panel `at`, 3 a delivery of a message of kind `kind` from panel `from` to
 // panel `at`, 4 power loss of panel `at`; any other number is no step.
@@ -43,6 +43,33 @@ pub struct Parts {
 pub struct Moved {
     pub answer: Answer,
     pub parts: Parts,
+}
+
+// ---- steps
+
+pub fn delivery(kind: u8, i: u8, j: u8) -> Step
+    ensures { λ m. ⌜ m ≡ deliveryStep kind i j ⌝ }
+{
+    Step {
+        what: 3,
+        kind,
+        from: i,
+        at: j,
+        value: 0,
+    }
+}
+
+// A start of a write or a read, or power loss.
+pub fn step_at(what: u8, i: u8, v: u32) -> Step
+    ensures { λ m. ⌜ m ≡ stepAt what i v ⌝ }
+{
+    Step {
+        what,
+        kind: 0,
+        from: 0,
+        at: i,
+        value: v,
+    }
 }
 
 // ---- places

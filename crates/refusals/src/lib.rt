@@ -7,12 +7,12 @@ ghost use Rattle.tables.specs.Places.{wAt};
 ghost use Rattle.basics.specs.Below.{oneIf};
 ghost use Rattle.basics.specs.Refusal.{firstOf};
 ghost use Rattle.form.specs.Asked.{Sized};
+use basics::both;
+use basics::choose;
+use basics::wide;
 use form::Operation;
 use form::Tables;
 use tables::WriteNo;
-use tables::both;
-use tables::choose;
-use tables::wide;
 
 fn is_idle(o: Operation) -> bool
     ensures { λ r. ⌜ r ≡ isIdle o ⌝ }

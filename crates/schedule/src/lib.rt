@@ -9,6 +9,7 @@ ghost use Rattle.basics.specs.Choice.{ite, both};
 ghost use Rattle.codec.specs.Numbers.{bytesOf, numberAt};
 ghost use Rattle.codec.specs.Items.{sizeOf};
 ghost use Rattle.schedule.specs.Records.{lengths, singles, records, bytesOfRecord, refusing, reading, writable, writing, Outcome};
+use basics::both;
 
 // A record. A set-up has n, t, writer and initial value in a, b, c and value; a write has its value; a read and a power
 // loss have the panel in a; a delivery has sender and receiver in a and b; a drain has nothing.
@@ -119,12 +120,6 @@ pub fn read_record(schedule: &[u8], at: usize) -> Read
 }
 
 // ---- writing
-
-fn both(a: bool, b: bool) -> bool
-    ensures { λ r. ⌜ r ≡ both a b ⌝ }
-{
-    if a { b } else { false }
-}
 
 fn either(a: bool, b: bool) -> bool
     ensures { λ r. ⌜ r ≡ ite a true b ⌝ }

@@ -2,12 +2,6 @@
 -- Assumes nothing.
 use mathlib.Core.Path.{sym, _∙_}
 use Rattle.basics.specs.Outcome.{OneResult}
-use Rattle.tables.proofs.wide.Kinds as wide-kinds
-use Rattle.tables.proofs.wide.Reads as wide
-use Rattle.tables.proofs.both.Kinds as both-kinds
-use Rattle.tables.proofs.both.Reads as both
-use Rattle.tables.proofs.choose.Kinds as choose-kinds
-use Rattle.tables.proofs.choose.Reads as choose
 use Rattle.tables.proofs.line_ok.Kinds as line-ok-kinds
 use Rattle.tables.proofs.line_ok.Reads as line-ok
 use Rattle.tables.proofs.hold_ok.Kinds as hold-ok-kinds
@@ -34,15 +28,6 @@ use Rattle.tables.proofs.leaving.Kinds as leaving-kinds
 use Rattle.tables.proofs.leaving.Reads as leaving
 use Rattle.tables.proofs.without.Kinds as without-kinds
 use Rattle.tables.proofs.without.Reads as without
-
-pub wide-only : OneResult 0 wide-kinds.ps wide-kinds.r wide.Post
-wide-only κs a x y e f p q = p .0 ∙ sym (q .0)
-
-pub both-only : OneResult 0 both-kinds.ps both-kinds.r both.Post
-both-only κs a x y e f p q = p ∙ sym q
-
-pub choose-only : OneResult 0 choose-kinds.ps choose-kinds.r choose.Post
-choose-only κs a x y e f p q = p ∙ sym q
 
 pub line-ok-only : OneResult 0 line-ok-kinds.ps line-ok-kinds.r line-ok.Post
 line-ok-only κs a x y e f p q = p ∙ sym q

@@ -10,6 +10,10 @@ ghost use Rattle.basics.specs.Below.{oneIf, countBelow};
 ghost use Rattle.tables.specs.Marks.{hasW, reachesW, hasR, isOther, marks, onlyPlace};
 ghost use Rattle.tables.specs.Form.{lineOk, holdOk, quietOk, historyOk};
 ghost use Rattle.tables.specs.Lines.{joined, leaving, without};
+use basics::both;
+use basics::choose;
+use basics::one_if;
+use basics::wide;
 
 // How far a panel is known to be with writes. Never counted or compared as a read number.
 pub struct WriteNo(pub u8);
@@ -27,32 +31,6 @@ pub struct Hold {
 pub struct Line {
     pub len: u8,
     pub sn: [WriteNo; 100],
-}
-
-pub fn wide(x: u8) -> usize
-    ensures { λ r. ⌜ (r ≡ x) × (r < 256) ⌝ }
-{
-    x as usize
-}
-
-// Tests put together without a branch, so that the loops below run over many places at once.
-
-pub fn both(a: bool, b: bool) -> bool
-    ensures { λ r. ⌜ r ≡ both a b ⌝ }
-{
-    if a { b } else { false }
-}
-
-pub fn choose(c: bool, a: bool, b: bool) -> bool
-    ensures { λ r. ⌜ r ≡ ite c a b ⌝ }
-{
-    if c { a } else { b }
-}
-
-fn one_if(b: bool) -> usize
-    ensures { λ r. ⌜ (r ≡ oneIf b) × (r ≤ 1) ⌝ }
-{
-    if b { 1 } else { 0 }
 }
 
 fn minus(a: u8, b: u8) -> u8

@@ -2,11 +2,11 @@
 ghost use mathlib.Core.Path.{_≡_};
 ghost use Rattle.basics.specs.Below.{allBelow};
 ghost use Rattle.unused.specs.Unused.{lineUnused, historyUnused, placeWith, placeUnused, idle, unused};
+use basics::both;
 use form::Operation;
 use form::Tables;
 use tables::Hold;
 use tables::Line;
-use tables::both;
 
 fn line_unused(l: Line) -> bool
     ensures { λ r. ⌜ r ≡ lineUnused l ⌝ }

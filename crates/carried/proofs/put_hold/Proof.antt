@@ -8,8 +8,8 @@ use Rattle.carried.proofs.put_hold.Statement.{statement}
 use Rattle.carried.proofs.put_hold.Tie as tie
 use Rattle.carried.specs.Panels.{holdBytes}
 
-one-if-requires : tie.Need-one-if-requires
-one-if-requires c κs = search needs
+byte-if-requires : tie.Need-byte-if-requires
+byte-if-requires c κs = search needs
 
 put-byte-requires : tie.Need-put-byte-requires
 put-byte-requires c κs = search needs
@@ -25,9 +25,9 @@ same-length c = search needs
 
 returns : tie.Need-returns
 unfolding holdBytes
-returns c = laid-then 1 (laid-as (ap (λ (b : ℕ). b ∷ []) (c .before .before .before .before .before .before .before .one-if .ensures)) (laid-byte (c .before .before .before .before .before .before .put-byte .ensures))) refl refl (record { is = c .before .before .put-word .ensures })
+returns c = laid-then 1 (laid-as (ap (λ (b : ℕ). b ∷ []) (c .before .before .before .before .before .before .before .byte-if .ensures)) (laid-byte (c .before .before .before .before .before .before .put-byte .ensures))) refl refl (record { is = c .before .before .put-word .ensures })
 
 pub put-hold-spec : {M : Type 1} → statement M
 put-hold-spec =
     tie.close
-    (tie.spec one-if-requires put-byte-requires add-put-word put-word-requires same-length returns)
+    (tie.spec byte-if-requires put-byte-requires add-put-word put-word-requires same-length returns)

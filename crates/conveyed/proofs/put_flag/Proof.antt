@@ -7,8 +7,8 @@ use Rattle.carried.proofs.Rows.{laid-byte, laid-as}
 use Rattle.conveyed.proofs.put_flag.Statement.{statement}
 use Rattle.conveyed.proofs.put_flag.Tie as tie
 
-one-if-requires : tie.Need-one-if-requires
-one-if-requires c κs = search needs
+byte-if-requires : tie.Need-byte-if-requires
+byte-if-requires c κs = search needs
 
 put-byte-requires : tie.Need-put-byte-requires
 put-byte-requires c κs = search needs
@@ -17,7 +17,7 @@ same-length : tie.Need-same-length
 same-length c = search needs
 
 returns : tie.Need-returns
-returns c = laid-as (ap (λ (b : ℕ). b ∷ []) (c .before .before .before .one-if .ensures)) (laid-byte (c .before .before .put-byte .ensures))
+returns c = laid-as (ap (λ (b : ℕ). b ∷ []) (c .before .before .before .byte-if .ensures)) (laid-byte (c .before .before .put-byte .ensures))
 
 pub put-flag-spec : {M : Type 1} → statement M
-put-flag-spec = tie.close (tie.spec one-if-requires put-byte-requires same-length returns)
+put-flag-spec = tie.close (tie.spec byte-if-requires put-byte-requires same-length returns)

@@ -27,8 +27,8 @@ returns c = simp (c .quiet .ensures, c .before .onward .ensures, c .before .befo
 add-t12 : tie.Need-add-t12
 add-t12 c = record { fits = omega (arith, kind-few _ (c .before .before .before .first-in-flight .ensures) (not-false _ (c .before .if1 .left))) }
 
-delivery-step-requires : tie.Need-delivery-step-requires
-delivery-step-requires c κs = search needs
+delivery-requires : tie.Need-delivery-requires
+delivery-requires c κs = search needs
 
 no-line-requires : tie.Need-no-line-requires
 no-line-requires c κs = search needs
@@ -43,7 +43,7 @@ steps-requires : tie.Need-steps-requires
 steps-requires c κs = search needs
 
 returns-2 : tie.Need-returns-2
-returns-2 c = simp (c .steps .ensures, c .before .mid-drain .ensures, c .before .before .no-line .ensures, c .before .before .before .delivery-step .ensures) (drain-delivers _ _ _ (c .before .before .before .before .before .before .before .first-in-flight .ensures) (not-false _ (c .before .before .before .before .before .if1 .left)))
+returns-2 c = simp (c .steps .ensures, c .before .mid-drain .ensures, c .before .before .no-line .ensures, c .before .before .before .delivery .ensures) (drain-delivers _ _ _ (c .before .before .before .before .before .before .before .first-in-flight .ensures) (not-false _ (c .before .before .before .before .before .if1 .left)))
 
 pub drain-turn-spec : {M : Type 1} → statement M
 drain-turn-spec =
@@ -56,7 +56,7 @@ drain-turn-spec =
     quiet-requires
     returns
     add-t12
-    delivery-step-requires
+    delivery-requires
     no-line-requires
     add-mid-drain
     mid-drain-requires

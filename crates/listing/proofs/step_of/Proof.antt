@@ -23,14 +23,14 @@ step-at-requires-3 c κs = search needs
 returns-3 : tie.Need-returns-3
 returns-3 c = c .step-at3 .ensures ∙ step-loses _ (c .before .before .before .before .before .if1 .left) (c .before .before .before .if2 .left) (c .before .if3 .taken)
 
-sub-delivery-step : tie.Need-sub-delivery-step
-sub-delivery-step c = search needs
+sub-delivery : tie.Need-sub-delivery
+sub-delivery c = search needs
 
-delivery-step-requires : tie.Need-delivery-step-requires
-delivery-step-requires c κs = search needs
+delivery-requires : tie.Need-delivery-requires
+delivery-requires c κs = search needs
 
 returns-4 : tie.Need-returns-4
-returns-4 c = c .delivery-step .ensures ∙ step-delivers _ (c .before .before .before .before .before .before .if1 .left) (c .before .before .before .before .if2 .left) (c .before .before .if3 .left)
+returns-4 c = c .delivery .ensures ∙ step-delivers _ (c .before .before .before .before .before .before .if1 .left) (c .before .before .before .before .if2 .left) (c .before .before .if3 .left)
 
 pub step-of-spec : {M : Type 1} → statement M
 step-of-spec =
@@ -42,6 +42,6 @@ step-of-spec =
     returns-2
     step-at-requires-3
     returns-3
-    sub-delivery-step
-    delivery-step-requires
+    sub-delivery
+    delivery-requires
     returns-4)

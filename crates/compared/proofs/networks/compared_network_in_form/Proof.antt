@@ -12,12 +12,12 @@ network-from-requires c κs = search needs
 in-form-requires : tie.Need-in-form-requires
 in-form-requires c κs = search needs
 
-one-if-requires : tie.Need-one-if-requires
-one-if-requires c κs = search needs
+byte-if-requires : tie.Need-byte-if-requires
+byte-if-requires c κs = search needs
 
 returns : tie.Need-returns
-returns c = c .one-if .ensures ∙ ap oneIf (c .before .in-form .ensures ∙ ap netForm (c .before .before .network-from .ensures))
+returns c = c .byte-if .ensures ∙ ap oneIf (c .before .in-form .ensures ∙ ap netForm (c .before .before .network-from .ensures))
 
 pub compared-network-in-form-spec : {M : Type 1} → statement M
 compared-network-in-form-spec =
-    tie.close (tie.spec network-from-requires in-form-requires one-if-requires returns)
+    tie.close (tie.spec network-from-requires in-form-requires byte-if-requires returns)

@@ -8,8 +8,8 @@ use Rattle.compared.proofs.networks.put_found.Statement.{statement}
 use Rattle.compared.proofs.networks.put_found.Tie as tie
 use Rattle.compared.specs.Stepping.{foundBytes}
 
-one-if-requires : tie.Need-one-if-requires
-one-if-requires c κs = search needs
+byte-if-requires : tie.Need-byte-if-requires
+byte-if-requires c κs = search needs
 
 put-byte-requires : tie.Need-put-byte-requires
 put-byte-requires c κs = search needs
@@ -28,13 +28,13 @@ same-length c = search needs
 
 returns : tie.Need-returns
 unfolding foundBytes
-returns c = laid-then 1 (laid-as (ap (λ (b : ℕ). b ∷ []) (c .before .before .before .before .before .before .before .before .before .before .before .before .before .before .before .one-if .ensures)) (laid-byte (c .before .before .before .before .before .before .before .before .before .before .before .before .before .before .put-byte .ensures))) refl refl (laid-then 1 (laid-byte (c .before .before .before .before .before .before .before .before .before .before .put-byte2 .ensures)) refl refl (laid-then 1 (laid-byte (c .before .before .before .before .before .before .put-byte3 .ensures)) refl refl (laid-byte (c .before .before .put-byte4 .ensures))))
+returns c = laid-then 1 (laid-as (ap (λ (b : ℕ). b ∷ []) (c .before .before .before .before .before .before .before .before .before .before .before .before .before .before .before .byte-if .ensures)) (laid-byte (c .before .before .before .before .before .before .before .before .before .before .before .before .before .before .put-byte .ensures))) refl refl (laid-then 1 (laid-byte (c .before .before .before .before .before .before .before .before .before .before .put-byte2 .ensures)) refl refl (laid-then 1 (laid-byte (c .before .before .before .before .before .before .put-byte3 .ensures)) refl refl (laid-byte (c .before .before .put-byte4 .ensures))))
 
 pub put-found-spec : {M : Type 1} → statement M
 put-found-spec =
     tie.close
     (tie.spec
-    one-if-requires
+    byte-if-requires
     put-byte-requires
     put-byte-requires-2
     put-byte-requires-3

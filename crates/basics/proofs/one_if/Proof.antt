@@ -1,8 +1,8 @@
--- `house::one_if` meets its contract. Assumes nothing.
+-- `basics::one_if` meets its contract. Assumes nothing.
 use borrow.Author.Needs.{needs}
+use Rattle.basics.proofs.one_if.Statement.{statement}
+use Rattle.basics.proofs.one_if.Tie as tie
 use Rattle.basics.specs.Below.{oneIf}
-use Rattle.house.proofs.one_if.Statement.{statement}
-use Rattle.house.proofs.one_if.Tie as tie
 
 returns : tie.Need-returns
 unfolding oneIf

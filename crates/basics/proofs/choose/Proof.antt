@@ -1,7 +1,7 @@
--- `tables::choose` meets its contract. Assumes nothing.
+-- `basics::choose` meets its contract. Assumes nothing.
+use Rattle.basics.proofs.choose.Statement.{statement}
+use Rattle.basics.proofs.choose.Tie as tie
 use Rattle.basics.specs.Choice.{ite}
-use Rattle.tables.proofs.choose.Statement.{statement}
-use Rattle.tables.proofs.choose.Tie as tie
 
 returns : tie.Need-returns
 unfolding ite

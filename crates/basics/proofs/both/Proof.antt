@@ -1,7 +1,7 @@
--- `schedule::both` meets its contract. Assumes nothing.
+-- `basics::both` meets its contract. Assumes nothing.
+use Rattle.basics.proofs.both.Statement.{statement}
+use Rattle.basics.proofs.both.Tie as tie
 use Rattle.basics.specs.Choice.{both}
-use Rattle.schedule.proofs.both.Statement.{statement}
-use Rattle.schedule.proofs.both.Tie as tie
 
 returns : tie.Need-returns
 unfolding both
