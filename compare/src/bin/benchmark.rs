@@ -4,9 +4,9 @@
 //! the least time of each counts. The proved call writes into one area, allocated before the first run
 //! and not cleared between runs; the second program allocates its listing.
 //!
-//! They do not do the same work: the proved network is passed by value, and each of its steps first
-//! tests that the whole network is in form; the second program's listing changes one network in place
-//! and tests no form.
+//! Both change one network in place. They do not do the same work all the same: each event of the proved
+//! one first tests that the panel which acts is in form, and hands the panel's tables on by value; the
+//! second program's listing tests no form and copies nothing.
 
 use compare::listing::{list_into, ENOUGH};
 use second::listing::{listing, LONGEST};

@@ -413,6 +413,7 @@ fn put_lines(schedule: &[u8], out: &mut [u8]) -> usize
         at = put_line(out, at, step, l);
         step += 1;
         let turn = next_turn(schedule, b, rows, down);
+        // the step, on the parts of the network that it touches; the network itself stays where it is
         let m = turn.step;
         let first = panels[0];
         let f = first.tables;
