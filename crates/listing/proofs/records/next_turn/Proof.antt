@@ -1,12 +1,12 @@
--- `listing::next_turn` meets its contract. Assumes nothing.
+-- `listing::records::next_turn` meets its contract. Assumes nothing.
 use borrow.Author.Needs.{needs}
 use mathlib.Core.Path.{ap, _∙_}
 use native.Mathlib.Omega.{arith}
 use Rattle.schedule.specs.declared.Read.{Read}
 use Rattle.listing.proofs.Reading.{used-within}
 use Rattle.listing.proofs.Turns.{next-ended, next-drains, next-none, next-reads}
-use Rattle.listing.proofs.next_turn.Statement.{statement}
-use Rattle.listing.proofs.next_turn.Tie as tie
+use Rattle.listing.proofs.records.next_turn.Statement.{statement}
+use Rattle.listing.proofs.records.next_turn.Tie as tie
 
 no-more-requires : tie.Need-no-more-requires
 no-more-requires c κs = search needs

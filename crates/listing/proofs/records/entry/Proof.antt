@@ -1,8 +1,8 @@
--- `listing::entry` meets its contract. Assumes nothing.
+-- `listing::records::entry` meets its contract. Assumes nothing.
 use borrow.Author.Needs.{needs}
 use Rattle.listing.proofs.Turns.{entry-as}
-use Rattle.listing.proofs.entry.Statement.{statement}
-use Rattle.listing.proofs.entry.Tie as tie
+use Rattle.listing.proofs.records.entry.Statement.{statement}
+use Rattle.listing.proofs.records.entry.Tie as tie
 
 shown-by-requires : tie.Need-shown-by-requires
 shown-by-requires c κs = search needs

@@ -1,9 +1,9 @@
--- `listing::record_turn` meets its contract. Assumes nothing.
+-- `listing::records::record_turn` meets its contract. Assumes nothing.
 use borrow.Author.Needs.{needs}
 use mathlib.Core.Path.{_∙_}
 use Rattle.listing.proofs.Turns.{record-refused, record-set-up, record-drains, record-steps}
-use Rattle.listing.proofs.record_turn.Statement.{statement}
-use Rattle.listing.proofs.record_turn.Tie as tie
+use Rattle.listing.proofs.records.record_turn.Statement.{statement}
+use Rattle.listing.proofs.records.record_turn.Tie as tie
 
 unread-requires : tie.Need-unread-requires
 unread-requires c κs = search needs

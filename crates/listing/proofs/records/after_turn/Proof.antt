@@ -1,9 +1,9 @@
--- `listing::after_turn` meets its contract. Assumes nothing.
+-- `listing::records::after_turn` meets its contract. Assumes nothing.
 use borrow.Author.Needs.{needs}
 use borrow.Author.Tests.{not-true, not-false}
 use Rattle.listing.proofs.Turns.{after-quiet, after-step}
-use Rattle.listing.proofs.after_turn.Statement.{statement}
-use Rattle.listing.proofs.after_turn.Tie as tie
+use Rattle.listing.proofs.records.after_turn.Statement.{statement}
+use Rattle.listing.proofs.records.after_turn.Tie as tie
 
 returns : tie.Need-returns
 returns c = after-quiet _ _ (not-true _ (c .if1 .taken))

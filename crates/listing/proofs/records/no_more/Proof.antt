@@ -1,7 +1,7 @@
--- `listing::no_more` meets its contract. Assumes nothing.
+-- `listing::records::no_more` meets its contract. Assumes nothing.
 use borrow.Author.Needs.{needs}
-use Rattle.listing.proofs.no_more.Statement.{statement}
-use Rattle.listing.proofs.no_more.Tie as tie
+use Rattle.listing.proofs.records.no_more.Statement.{statement}
+use Rattle.listing.proofs.records.no_more.Tie as tie
 
 no-line-requires : tie.Need-no-line-requires
 no-line-requires c κs = search needs

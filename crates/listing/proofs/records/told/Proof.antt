@@ -1,10 +1,10 @@
--- `listing::told` meets its contract. Assumes nothing.
+-- `listing::records::told` meets its contract. Assumes nothing.
 use Prim.Native.Nat.{ℕ}
 use borrow.Author.Needs.{needs}
 use mathlib.Core.Path.{sym, ap, _∙_}
 use Rattle.promise.specs.View.{codeOf}
-use Rattle.listing.proofs.told.Statement.{statement}
-use Rattle.listing.proofs.told.Tie as tie
+use Rattle.listing.proofs.records.told.Statement.{statement}
+use Rattle.listing.proofs.records.told.Tie as tie
 use Rattle.listing.specs.Entries.{entry, tagOf, numberOf, told}
 
 enum-known-a : tie.Need-enum-known-a

@@ -1,9 +1,9 @@
--- `listing::opened` meets its contract. Assumes nothing.
+-- `listing::records::opened` meets its contract. Assumes nothing.
 use borrow.Author.Needs.{needs}
 use mathlib.Core.Path.{ap, _∙_}
 use Rattle.listing.proofs.Turns.{opened-empty, opened-some}
-use Rattle.listing.proofs.opened.Statement.{statement}
-use Rattle.listing.proofs.opened.Tie as tie
+use Rattle.listing.proofs.records.opened.Statement.{statement}
+use Rattle.listing.proofs.records.opened.Tie as tie
 use Rattle.listing.specs.Turning.{benchAt}
 
 read-record-requires : tie.Need-read-record-requires

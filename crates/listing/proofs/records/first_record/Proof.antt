@@ -1,9 +1,9 @@
--- `listing::first_record` meets its contract. Assumes nothing.
+-- `listing::records::first_record` meets its contract. Assumes nothing.
 use borrow.Author.Needs.{needs}
 use mathlib.Core.Path.{ap, _∙_}
 use Rattle.listing.proofs.Turns.{first-refused, first-other, first-out-of-range, first-set-up}
-use Rattle.listing.proofs.first_record.Statement.{statement}
-use Rattle.listing.proofs.first_record.Tie as tie
+use Rattle.listing.proofs.records.first_record.Statement.{statement}
+use Rattle.listing.proofs.records.first_record.Tie as tie
 use Rattle.listing.specs.Turning.{benchAt}
 
 unread-requires : tie.Need-unread-requires

@@ -1,7 +1,7 @@
--- `listing::quiet` meets its contract. Assumes nothing.
+-- `listing::records::quiet` meets its contract. Assumes nothing.
 use borrow.Author.Needs.{needs}
-use Rattle.listing.proofs.quiet.Statement.{statement}
-use Rattle.listing.proofs.quiet.Tie as tie
+use Rattle.listing.proofs.records.quiet.Statement.{statement}
+use Rattle.listing.proofs.records.quiet.Tie as tie
 
 the-drain-requires : tie.Need-the-drain-requires
 the-drain-requires c κs = search needs

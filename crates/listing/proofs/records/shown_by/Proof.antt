@@ -1,9 +1,9 @@
--- `listing::shown_by` meets its contract. Assumes nothing.
+-- `listing::records::shown_by` meets its contract. Assumes nothing.
 use borrow.Author.Needs.{needs}
 use mathlib.Core.Path.{sym, _∙_}
 use Rattle.listing.proofs.Turns.{shown-two, shown-read, shown-loss, shown-none}
-use Rattle.listing.proofs.shown_by.Statement.{statement}
-use Rattle.listing.proofs.shown_by.Tie as tie
+use Rattle.listing.proofs.records.shown_by.Statement.{statement}
+use Rattle.listing.proofs.records.shown_by.Tie as tie
 
 both-requires : tie.Need-both-requires
 both-requires c κs = search needs

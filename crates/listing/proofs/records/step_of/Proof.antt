@@ -1,9 +1,9 @@
--- `listing::step_of` meets its contract. Assumes nothing.
+-- `listing::records::step_of` meets its contract. Assumes nothing.
 use borrow.Author.Needs.{needs}
 use mathlib.Core.Path.{_∙_}
 use Rattle.listing.proofs.Turns.{step-writes, step-reads, step-loses, step-delivers}
-use Rattle.listing.proofs.step_of.Statement.{statement}
-use Rattle.listing.proofs.step_of.Tie as tie
+use Rattle.listing.proofs.records.step_of.Statement.{statement}
+use Rattle.listing.proofs.records.step_of.Tie as tie
 
 step-at-requires : tie.Need-step-at-requires
 step-at-requires c κs = search needs

@@ -1,7 +1,7 @@
--- `listing::unread` meets its contract. Assumes nothing.
+-- `listing::records::unread` meets its contract. Assumes nothing.
 use mathlib.Core.Path.{refl}
-use Rattle.listing.proofs.unread.Statement.{statement}
-use Rattle.listing.proofs.unread.Tie as tie
+use Rattle.listing.proofs.records.unread.Statement.{statement}
+use Rattle.listing.proofs.records.unread.Tie as tie
 use Rattle.listing.specs.Entries.{unread}
 
 returns : tie.Need-returns

@@ -1,10 +1,10 @@
--- `listing::drain_turn` meets its contract. Assumes nothing.
+-- `listing::records::drain_turn` meets its contract. Assumes nothing.
 use borrow.Author.Needs.{needs}
 use borrow.Author.Tests.{not-true, not-false}
 use native.Mathlib.Omega.{arith}
 use Rattle.listing.proofs.Turns.{drain-ends, drain-delivers, kind-few}
-use Rattle.listing.proofs.drain_turn.Statement.{statement}
-use Rattle.listing.proofs.drain_turn.Tie as tie
+use Rattle.listing.proofs.records.drain_turn.Statement.{statement}
+use Rattle.listing.proofs.records.drain_turn.Tie as tie
 
 first-in-flight-requires : tie.Need-first-in-flight-requires
 first-in-flight-requires c κs = search needs
