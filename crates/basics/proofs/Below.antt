@@ -1,19 +1,11 @@
 -- The laws of the numbers below a bound.
 -- Assumes nothing.
-use mathlib.Core.Path.{_≡_, refl, sym, ap, ap₂, _∙_}
-use mathlib.Core.Bool.{Bool, true}
-use mathlib.Core.Logic.{_⊎_, inl, inr}
-use mathlib.Core.List.{[], _∷_, _++_}
+use mathlib.Core.{Bool.{Bool, true}, List.{[], _∷_, _++_}, Logic.{_⊎_, inl, inr}, Path.{_≡_, refl, sym, ap, ap₂, _∙_}}
 use Prim.Native.Nat.{ℕ, zero, suc, _+_, _≤_, _<_}
-use native.Mathlib.Numerals.{add-one}
-use native.Mathlib.Nat.{not-suc-le-zero, eq-or-lt-of-le}
-use native.Mathlib.Omega.{arith}
-use lib.ListN.{length, getD, length-append, List·getD-append}
-use lib.Seq.{getD-at}
-use Rattle.basics.specs.Choice.{both}
-use Rattle.basics.specs.Below.{oneIf, allBelow, countBelow, listBelow}
-use Rattle.basics.proofs.Choices.{both-left, both-right, both-true}
-use Rattle.basics.proofs.Ones.{one-most}
+use native.Mathlib.{Nat.{not-suc-le-zero, eq-or-lt-of-le}, Numerals.add-one, Omega.arith}
+use lib.{ListN.{length, getD, length-append, List·getD-append}, Seq.getD-at}
+use Rattle.basics.specs.{Below.{oneIf, allBelow, countBelow, listBelow}, Choice.both}
+use Rattle.basics.proofs.{Choices.{both-left, both-right, both-true}, Ones.one-most}
 
 -- ---- one more, as a loop's turn has it
 

@@ -1,7 +1,6 @@
 -- The laws of a choice and of two tests at once.
 -- Assumes nothing.
-use mathlib.Core.Path.{_≡_, refl, sym, subst, _∙_}
-use mathlib.Core.Bool.{Bool, true, false}
+use mathlib.Core.{Bool.{Bool, true, false}, Path.{_≡_, refl, sym, subst, _∙_}}
 use Rattle.basics.specs.Choice.{ite, both}
 
 pub ite-true {ℓ} : {A : Type ℓ} {b : Bool} (x y : A) → b ≡ true → ite b x y ≡ x

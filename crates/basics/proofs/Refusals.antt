@@ -1,13 +1,9 @@
 -- The laws of refusals tried in order: where the first of them is 0, every test came out false, and the other way round.
 -- Assumes nothing.
-use mathlib.Core.Path.{_≡_, refl, sym}
-use mathlib.Core.Bool.{Bool, true, false}
-use mathlib.Core.List.{List, [], _∷_, _++_}
-use mathlib.Core.Logic.{_≢_}
+use mathlib.Core.{Bool.{Bool, true, false}, List.{List, [], _∷_, _++_}, Logic._≢_, Path.{_≡_, refl, sym}}
 use Prim.Native.Nat.{ℕ, _<_}
 use native.Mathlib.Omega.{arith}
-use Rattle.basics.specs.Choice.{ite}
-use Rattle.basics.specs.Refusal.{Trial, firstOf}
+use Rattle.basics.specs.{Choice.ite, Refusal.{Trial, firstOf}}
 use Rattle.basics.proofs.Choices.{ite-true, ite-false}
 
 -- no test came out true

@@ -2,8 +2,7 @@
 -- last number, as a loop does that counts up.
 -- Assumes nothing.
 use Prim.Native.Nat.{ℕ, zero, suc, _+_}
-use mathlib.Core.Bool.{Bool, true, false}
-use mathlib.Core.List.{List, [], _∷_, _++_}
+use mathlib.Core.{Bool.{Bool, true, false}, List.{List, [], _∷_, _++_}}
 use Rattle.basics.specs.Choice.{both}
 
 unfoldable pub oneIf : Bool → ℕ

@@ -2,8 +2,7 @@
 -- gives its number; 0 where none does.
 -- Assumes nothing.
 use Prim.Native.Nat.{ℕ}
-use mathlib.Core.Bool.{Bool}
-use mathlib.Core.List.{List, [], _∷_}
+use mathlib.Core.{Bool.Bool, List.{List, [], _∷_}}
 use Rattle.basics.specs.Choice.{ite}
 
 pub record Trial : Type 0 where

@@ -1,15 +1,12 @@
 -- What the listing's call leaves in an area of that length: the listing, at the front.
 -- Assumes nothing.
 use Prim.Native.Nat.{ℕ, _≤_}
-use mathlib.Core.Path.{_≡_, sym, ap, subst, _∙_}
-use mathlib.Core.List.{List}
+use mathlib.Core.{List.List, Path.{_≡_, sym, ap, subst, _∙_}}
 use borrow.Author.Tests.{le-ltb}
 use native.Mathlib.Omega.{arith}
-use lib.ListN.{length, take}
-use lib.Seq.{sets, length-sets, sets-eq, take-append-seam}
+use lib.{ListN.{length, take}, Seq.{sets, length-sets, sets-eq, take-append-seam}}
 use Rattle.basics.proofs.Choices.{ite-false}
-use Rattle.io.specs.Counts.{Counts}
-use Rattle.io.proofs.Counting.{counts}
+use Rattle.io.{proofs.Counting.counts, specs.Counts.Counts}
 use Rattle.listing.specs.Listing.{listingOf, longest, listing, Outcome}
 
 abbrev Lays : List ℕ → Outcome → Type 0

@@ -1,18 +1,12 @@
 -- How many bytes the parts of a panel take, and the whole: 1,566.
 -- Assumes nothing.
-use mathlib.Core.Path.{_≡_, refl, ap}
-use mathlib.Core.List.{List, [], _∷_}
+use mathlib.Core.{List.{List, [], _∷_}, Path.{_≡_, refl, ap}}
 use Prim.Native.Nat.{ℕ, suc}
 use lib.ListN.{length, length-append}
 use Rattle.codec.proofs.Numbers.{length-bytesOf}
+use Rattle.tables.specs.{Places.{wAt, rAt, holdAt, lineAt}, declared.Hold.Hold, declared.Line.Line, declared.ReadNo.ReadNo}
 use Rattle.tables.specs.declared.WriteNo.{WriteNo}
-use Rattle.tables.specs.declared.ReadNo.{ReadNo}
-use Rattle.tables.specs.declared.Hold.{Hold}
-use Rattle.tables.specs.declared.Line.{Line}
-use Rattle.tables.specs.Places.{wAt, rAt, holdAt, lineAt}
-use Rattle.form.specs.declared.Operation.{Operation}
-use Rattle.form.specs.declared.Operation.the-variants.{Idle, Writing, FirstWait, SecondWait}
-use Rattle.form.specs.declared.Tables.{Tables}
+use Rattle.form.specs.declared.{Operation.Operation, Operation.the-variants.{Idle, Writing, FirstWait, SecondWait}, Tables.Tables}
 use Rattle.carried.specs.Panels.{headBytes, wBytes, rBytes, holdBytes, heldBytes, lineBytes, linesBytes, operationBytes, valuesBytes, panelBytes}
 use Rattle.carried.proofs.Rows.{length-rows}
 

@@ -1,15 +1,11 @@
 -- Bytes written one behind the other, and row by row as a loop does.
 -- Assumes nothing.
-use mathlib.Core.Path.{_≡_, refl, sym, ap, ap₂, _∙_}
-use mathlib.Core.List.{List, [], _∷_, _++_}
+use mathlib.Core.{List.{List, [], _∷_, _++_}, Path.{_≡_, refl, sym, ap, ap₂, _∙_}}
 use Prim.Native.Nat.{ℕ, zero, suc, _+_, _*_}
-use native.Mathlib.Numerals.{add-one}
-use native.Mathlib.Omega.{arith}
-use lib.ListN.{length, length-append, set}
-use lib.Seq.{sets, length-sets}
+use native.Mathlib.{Numerals.add-one, Omega.arith}
+use lib.{ListN.{length, length-append, set}, Seq.{sets, length-sets}}
 use Rattle.basics.proofs.Lists.{sets-append}
-use Rattle.carried.specs.Laid.{Laid}
-use Rattle.carried.specs.Panels.{rowsBelow}
+use Rattle.carried.specs.{Laid.Laid, Panels.rowsBelow}
 
 pub laid-length : {l xs m : List ℕ} {i : ℕ} → Laid l i xs m → length m ≡ length l
 laid-length {l} {xs} {m} {i} h = ap length (h .is) ∙ length-sets l i xs

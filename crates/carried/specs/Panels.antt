@@ -3,21 +3,13 @@
 -- A value is 4 bytes, high byte first. Any bytes stand for a panel: a byte past the end counts as 0.
 -- Assumes nothing.
 use Prim.Native.Nat.{ℕ, zero, suc, _+_, _*_}
-use mathlib.Core.Bool.{not}
-use mathlib.Core.List.{List, [], _∷_, _++_}
-use lib.Dec.{eqb}
-use lib.ListN.{getD}
-use Rattle.basics.specs.Choice.{ite}
-use Rattle.basics.specs.Below.{oneIf, listBelow}
+use mathlib.Core.{Bool.not, List.{List, [], _∷_, _++_}}
+use lib.{Dec.eqb, ListN.getD}
+use Rattle.basics.specs.{Below.{oneIf, listBelow}, Choice.ite}
 use Rattle.codec.specs.Numbers.{bytesOf, numberAt}
+use Rattle.tables.specs.{Places.{wAt, rAt, holdAt, lineAt}, declared.Hold.Hold, declared.Line.Line, declared.ReadNo.ReadNo}
 use Rattle.tables.specs.declared.WriteNo.{WriteNo}
-use Rattle.tables.specs.declared.ReadNo.{ReadNo}
-use Rattle.tables.specs.declared.Hold.{Hold}
-use Rattle.tables.specs.declared.Line.{Line}
-use Rattle.tables.specs.Places.{wAt, rAt, holdAt, lineAt}
-use Rattle.form.specs.declared.Operation.{Operation}
-use Rattle.form.specs.declared.Operation.the-variants.{Idle, Writing, FirstWait, SecondWait}
-use Rattle.form.specs.declared.Tables.{Tables}
+use Rattle.form.specs.declared.{Operation.Operation, Operation.the-variants.{Idle, Writing, FirstWait, SecondWait}, Tables.Tables}
 
 -- ---- a panel out of bytes
 

@@ -1,13 +1,11 @@
 -- The laws of a choice by kind: what it is at each kind, and that what holds of all five outcomes holds of it.
 -- Assumes nothing.
-use mathlib.Core.Path.{_≡_, sym, _∙_}
-use mathlib.Core.Logic.{_≢_}
+use mathlib.Core.{Logic._≢_, Path.{_≡_, sym, _∙_}}
 use Prim.Native.Nat.{ℕ, _<_}
 use native.Mathlib.Omega.{arith}
 use lib.Dec.{eqb}
 use borrow.Author.Tests.{eqb-true, eqb-false, ne-eqb}
-use Rattle.basics.specs.Choice.{ite}
-use Rattle.basics.proofs.Choices.{ite-case}
+use Rattle.basics.{proofs.Choices.ite-case, specs.Choice.ite}
 use Rattle.channels.specs.Channels.{byKind}
 
 pub at-write0 {ℓ} : {A : Type ℓ} {k : ℕ} (a b c d e : A) → k ≡ 0 → byKind k a b c d e ≡ a

@@ -1,16 +1,12 @@
 -- Channels and posting at the edges, by computation: a bit taken, the hundredth and the hundred-and-first, and a row that is
 -- not in form.
 -- Assumes nothing.
-use mathlib.Core.Path.{_≡_, refl}
-use mathlib.Core.Bool.{true, false}
-use mathlib.Core.List.{[], _∷_}
+use mathlib.Core.{Bool.{true, false}, List.{[], _∷_}, Path.{_≡_, refl}}
 use Prim.Native.Nat.{ℕ}
-use Rattle.basics.specs.Choice.{ite, both}
-use Rattle.basics.specs.Below.{allBelow}
+use Rattle.basics.specs.{Below.allBelow, Choice.{ite, both}}
 use Rattle.messages.specs.Sends.{Message}
-use Rattle.channels.specs.declared.Channel.{Channel}
 use Rattle.channels.specs.Channels.{byKind, noChannel, withReads, withWrite1, inFlight, has, valueIn, room, joined, less, slotOk, channelOk, channelEmpty, leads, rowPlaceOk, rowOk, emptyRow}
-use Rattle.channels.specs.Posting.{withChannel, posted, fitsIn, post, posts}
+use Rattle.channels.specs.{Posting.{withChannel, posted, fitsIn, post, posts}, declared.Channel.Channel}
 
 -- a message with the value 650
 abbrev message : ℕ → ℕ → Message

@@ -1,23 +1,17 @@
 -- A channel in form, as plain facts: what its tests say, both ways, that no more is in flight than may be, and that form is kept
 -- where a message joins and where one is taken.
 -- Assumes nothing.
-use mathlib.Core.Path.{_≡_, refl, sym, ap, _∙_}
-use mathlib.Core.Bool.{Bool, true, false, not}
-use mathlib.Core.Logic.{_↔_}
+use mathlib.Core.{Bool.{Bool, true, false, not}, Logic._↔_, Path.{_≡_, refl, sym, ap, _∙_}}
 use Prim.Native.Nat.{ℕ, zero, suc, _≤_, _<_}
-use native.Mathlib.Decide.{decLt}
-use native.Mathlib.Omega.{arith}
+use native.Mathlib.{Decide.decLt, Omega.arith}
 use lib.Dec.{eqb}
 use borrow.Author.Tests.{eqb-true, eq-eqb, leb-true, le-leb, not-true}
+use Rattle.basics.proofs.{Choices.{clash, ite-false, ite-case, both-left, both-right, both-true}, Ones.one-most}
 use Rattle.basics.specs.Choice.{ite, both}
-use Rattle.basics.proofs.Choices.{clash, ite-false, ite-case, both-left, both-right, both-true}
-use Rattle.basics.proofs.Ones.{one-most}
-use Rattle.tables.specs.declared.Hold.{Hold}
-use Rattle.tables.specs.Places.{noHold}
-use Rattle.channels.specs.declared.Channel.{Channel}
+use Rattle.tables.specs.{Places.noHold, declared.Hold.Hold}
 use Rattle.channels.specs.Channels.{byKind, inFlight, noChannel, room, joined, less, withWrite0, withWrite1, withReads, withProceeds, slotOk, channelOk, channelEmpty}
-use Rattle.channels.proofs.ByKind.{kind-case}
-use Rattle.channels.proofs.Flying.{cap, none-other, room-read, room-proceed}
+use Rattle.channels.specs.declared.Channel.{Channel}
+use Rattle.channels.proofs.{ByKind.kind-case, Flying.{cap, none-other, room-read, room-proceed}}
 
 -- ---- one channel
 

@@ -1,20 +1,13 @@
 -- Counting what is in flight in one channel: one more joins, one is taken, and what "there is one" and "there is room" are in
 -- numbers.
 -- Assumes nothing.
-use mathlib.Core.Path.{_≡_, refl, sym, subst, _∙_}
-use mathlib.Core.Bool.{Bool, true, false, not}
-use mathlib.Core.Logic.{_↔_, _≢_}
+use mathlib.Core.{Bool.{Bool, true, false, not}, Logic.{_↔_, _≢_}, Path.{_≡_, refl, sym, subst, _∙_}}
 use Prim.Native.Nat.{ℕ, zero, suc, _+_, _≤_, _<_}
-use native.Mathlib.Decide.{ℕ-discrete, decLt}
-use native.Mathlib.Omega.{arith}
+use native.Mathlib.{Decide.{ℕ-discrete, decLt}, Omega.arith}
 use lib.Dec.{ltb, eqb}
 use borrow.Author.Tests.{ltb-true, lt-ltb, not-true}
-use Rattle.basics.specs.Choice.{ite}
-use Rattle.basics.specs.Below.{oneIf}
-use Rattle.basics.proofs.Choices.{clash, ite-case}
-use Rattle.basics.proofs.Ones.{one-same, nought-apart}
-use Rattle.channels.specs.declared.Channel.{Channel}
-use Rattle.channels.specs.Channels.{byKind, noChannel, inFlight, has, room, joined, less}
+use Rattle.basics.{proofs.Choices.{clash, ite-case}, proofs.Ones.{one-same, nought-apart}, specs.Below.oneIf, specs.Choice.ite}
+use Rattle.channels.specs.{Channels.{byKind, noChannel, inFlight, has, room, joined, less}, declared.Channel.Channel}
 use Rattle.channels.proofs.ByKind.{at-read, at-proceed, at-other, not-at, but-write0, but-write1, but-read, but-proceed, kind-case}
 
 -- ---- what the code tests

@@ -1,19 +1,14 @@
 -- The laws of posting one message, and of messages behind messages: by these the code goes.
 -- Assumes nothing.
-use mathlib.Core.Path.{_≡_, refl, sym, ap, _∙_}
-use mathlib.Core.Bool.{Bool, true, false}
-use mathlib.Core.Logic.{_↔_}
-use mathlib.Core.List.{List, [], _∷_, _++_}
+use mathlib.Core.{Bool.{Bool, true, false}, List.{List, [], _∷_, _++_}, Logic._↔_, Path.{_≡_, refl, sym, ap, _∙_}}
 use Prim.Native.Nat.{_-_, _≤_}
 use lib.Dec.{leb}
 use borrow.Author.Tests.{leb-true, le-leb}
-use Rattle.basics.specs.Choice.{both}
 use Rattle.basics.proofs.Choices.{clash, ite-true, ite-false, ite-case, both-left, both-right, both-true, both-false-left, both-false-right}
+use Rattle.basics.specs.Choice.{both}
 use Rattle.messages.specs.Sends.{Message}
-use Rattle.channels.specs.declared.Posted.{Posted}
-use Rattle.channels.specs.declared.Row.{Row}
-use Rattle.channels.specs.Channels.{channelAt, room, joined}
-use Rattle.channels.specs.Posting.{posted, fitsIn, post, posts, withChannel}
+use Rattle.channels.specs.{Channels.{channelAt, room, joined}, Posting.{posted, fitsIn, post, posts, withChannel}}
+use Rattle.channels.specs.declared.{Posted.Posted, Row.Row}
 
 -- ---- one message
 

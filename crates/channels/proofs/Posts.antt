@@ -1,31 +1,18 @@
 -- What posting a list of messages does to a row: what was in flight and what was sent add up (`posts-adds`), all find room exactly
 -- when there is room for each (`posts-fit-iff`), and a channel to which nothing goes stays as it was (`posts-same`).
 -- Assumes nothing.
-use mathlib.Core.Path.{_≡_, refl, sym, ap, ap₂, subst₂, _∙_}
-use mathlib.Core.Bool.{Bool, true, false}
-use mathlib.Core.Logic.{_↔_, _≢_}
-use mathlib.Core.List.{List, [], _∷_}
+use mathlib.Core.{Bool.{Bool, true, false}, List.{List, [], _∷_}, Logic.{_↔_, _≢_}, Path.{_≡_, refl, sym, ap, ap₂, subst₂, _∙_}}
 use Prim.Native.Nat.{ℕ, _+_, _-_, _≤_, _<_}
-use native.Mathlib.Decide.{ℕ-discrete, decLe}
-use native.Mathlib.Nat.{add-zero}
-use native.Mathlib.Omega.{arith}
-use lib.Dec.{eqb}
-use lib.ListN.{length}
+use native.Mathlib.{Decide.{ℕ-discrete, decLe}, Nat.add-zero, Omega.arith}
+use lib.{Dec.eqb, ListN.length}
 use borrow.Author.Tests.{eqb-true, eq-eqb, ne-eqb}
+use Rattle.basics.{proofs.Choices.{both-left, both-right, both-false-left}, proofs.Ones.{nought, one-most, one-same}, specs.Below.oneIf}
 use Rattle.basics.specs.Choice.{both}
-use Rattle.basics.specs.Below.{oneIf}
-use Rattle.basics.proofs.Choices.{both-left, both-right, both-false-left}
-use Rattle.basics.proofs.Ones.{nought, one-most, one-same}
-use Rattle.messages.specs.Sends.{Message}
-use Rattle.messages.specs.Tally.{tally}
-use Rattle.channels.specs.declared.Channel.{Channel}
-use Rattle.channels.specs.declared.Row.{Row}
-use Rattle.channels.specs.declared.Posted.{Posted}
-use Rattle.channels.specs.Channels.{channelAt, inFlight}
-use Rattle.channels.specs.Posting.{posted, post, posts}
-use Rattle.channels.proofs.Flying.{cap, room-iff, joined-adds}
+use Rattle.messages.specs.{Sends.Message, Tally.tally}
+use Rattle.channels.specs.{Channels.{channelAt, inFlight}, Posting.{posted, post, posts}, declared.Channel.Channel}
+use Rattle.channels.specs.declared.{Posted.Posted, Row.Row}
+use Rattle.channels.proofs.{Flying.{cap, room-iff, joined-adds}, Posting.{after, Fits, First, first-of, posts-next, post-case}}
 use Rattle.channels.proofs.Rows.{channel-of-put, channel-of-put-ne, length-put}
-use Rattle.channels.proofs.Posting.{after, Fits, First, first-of, posts-next, post-case}
 
 -- ---- one message
 

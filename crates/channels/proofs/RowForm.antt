@@ -1,29 +1,19 @@
 -- A row in form, as plain facts: what its test says, both ways, and that form is kept where a message is taken and where an event's
 -- messages are posted.
 -- Assumes nothing.
-use mathlib.Core.Path.{_≡_, refl, sym, ap, subst, _∙_}
-use mathlib.Core.Bool.{Bool, true, false, not}
-use mathlib.Core.Logic.{_↔_, _≢_}
-use mathlib.Core.List.{List, [], _∷_}
+use mathlib.Core.{Bool.{Bool, true, false, not}, List.{List, [], _∷_}, Logic.{_↔_, _≢_}, Path.{_≡_, refl, sym, ap, subst, _∙_}}
 use Prim.Native.Nat.{ℕ, _+_, _-_, _≤_, _<_}
-use native.Mathlib.Decide.{ℕ-discrete, decLt}
-use native.Mathlib.Omega.{arith}
+use native.Mathlib.{Decide.{ℕ-discrete, decLt}, Omega.arith}
 use lib.ListN.{length}
 use borrow.Author.Tests.{eq-eqb, ne-eqb, lt-ltb, le-ltb}
-use Rattle.basics.proofs.Choices.{clash, ite-false, ite-case, both-true, both-false-left, both-false-right}
-use Rattle.basics.proofs.Below.{all-at, all-of}
-use Rattle.messages.specs.Sends.{Message}
-use Rattle.messages.specs.Tally.{tally}
-use Rattle.channels.specs.declared.Channel.{Channel}
-use Rattle.channels.specs.declared.Row.{Row}
-use Rattle.channels.specs.declared.Posted.{Posted}
+use Rattle.basics.proofs.{Below.{all-at, all-of}, Choices.{clash, ite-false, ite-case, both-true, both-false-left, both-false-right}}
+use Rattle.messages.specs.{Sends.Message, Tally.tally}
 use Rattle.channels.specs.Channels.{inFlight, channelAt, noChannel, less, leads, rowPlaceOk, rowOk, emptyRow}
-use Rattle.channels.specs.Posting.{withChannel, post, posts, taken}
-use Rattle.channels.proofs.Flying.{cap}
-use Rattle.channels.proofs.Rows.{put-case, channel-past, channel-of-empty, length-post}
-use Rattle.channels.proofs.Posting.{post-case}
-use Rattle.channels.proofs.Posts.{posts-same}
+use Rattle.channels.specs.{Posting.{withChannel, post, posts, taken}, declared.Channel.Channel, declared.Posted.Posted}
+use Rattle.channels.specs.declared.Row.{Row}
 use Rattle.channels.proofs.ChannelForm.{ChannelForm, channelOk-iff, channelEmpty-iff, none-form, form-within, joined-form, less-form, less-none}
+use Rattle.channels.proofs.{Flying.cap, Posting.post-case, Posts.posts-same}
+use Rattle.channels.proofs.Rows.{put-case, channel-past, channel-of-empty, length-post}
 
 -- ---- where a channel leads
 

@@ -1,22 +1,14 @@
 -- The laws of a row: what stands at a place after a channel was put there or elsewhere, and that a row keeps its seven places.
 -- Assumes nothing.
-use mathlib.Core.Path.{_≡_, refl, sym, ap, subst, _∙_}
-use mathlib.Core.Bool.{true}
-use mathlib.Core.Logic.{_≢_}
-use mathlib.Core.List.{List, [], _∷_}
+use mathlib.Core.{Bool.true, List.{List, [], _∷_}, Logic._≢_, Path.{_≡_, refl, sym, ap, subst, _∙_}}
 use Prim.Native.Nat.{ℕ, _-_, _≤_, _<_}
-use native.Mathlib.Decide.{ℕ-discrete}
-use native.Mathlib.Omega.{arith}
-use lib.ListN.{length, length-set, List·getD-eq-default, length-replicate}
-use lib.Seq.{getD-set-same, getD-set-other, set-out}
+use native.Mathlib.{Decide.ℕ-discrete, Omega.arith}
+use lib.{ListN.{length, length-set, List·getD-eq-default, length-replicate}, Seq.{getD-set-same, getD-set-other, set-out}}
 use Rattle.basics.proofs.Lists.{getD-same}
-use Rattle.messages.specs.declared.Sends.{Sends}
-use Rattle.messages.specs.Sends.{Message, messagesOf}
-use Rattle.channels.specs.declared.Channel.{Channel}
-use Rattle.channels.specs.declared.Row.{Row}
-use Rattle.channels.specs.declared.Posted.{Posted}
+use Rattle.messages.specs.{Sends.{Message, messagesOf}, declared.Sends.Sends}
 use Rattle.channels.specs.Channels.{channelAt, noChannel, less, emptyRow}
-use Rattle.channels.specs.Posting.{withChannel, posted, post, posts, postedAll, taken}
+use Rattle.channels.specs.{Posting.{withChannel, posted, post, posts, postedAll, taken}, declared.Channel.Channel}
+use Rattle.channels.specs.declared.{Posted.Posted, Row.Row}
 use Rattle.channels.proofs.Posting.{post-case}
 
 -- ---- what stands where

@@ -1,28 +1,19 @@
 -- The values of WRITEs in flight: the one that joins brings its value, and the others keep theirs.
 -- Assumes nothing.
+use mathlib.Core.{Bool.true, List.{List, [], _∷_, List·Memᴰ, List·Memᴰ·head, List·Memᴰ·tail}, Logic._≢_}
 use mathlib.Core.Path.{_≡_, refl, sym, ap, subst, _∙_}
-use mathlib.Core.Bool.{true}
-use mathlib.Core.Logic.{_≢_}
-use mathlib.Core.List.{List, [], _∷_, List·Memᴰ, List·Memᴰ·head, List·Memᴰ·tail}
 use Prim.Native.Nat.{ℕ, zero, suc, _+_, _-_, _≤_, _<_}
-use native.Mathlib.Decide.{ℕ-discrete, decLe}
-use native.Mathlib.Omega.{arith}
+use native.Mathlib.{Decide.{ℕ-discrete, decLe}, Omega.arith}
 use lib.ListN.{length}
 use borrow.Author.Tests.{not-true}
-use Rattle.basics.specs.Choice.{ite}
-use Rattle.basics.proofs.Choices.{ite-case}
-use Rattle.messages.specs.Sends.{Message}
-use Rattle.messages.specs.Tally.{tally}
-use Rattle.channels.specs.declared.Channel.{Channel}
-use Rattle.channels.specs.declared.Row.{Row}
-use Rattle.channels.specs.declared.Posted.{Posted}
-use Rattle.channels.specs.Channels.{byKind, channelAt, valueIn, room, joined, less}
-use Rattle.channels.specs.Posting.{posted, post, posts}
-use Rattle.channels.proofs.ByKind.{not-at, but-write0, but-write1, kind-case}
-use Rattle.channels.proofs.Flying.{cap-write}
-use Rattle.channels.proofs.Rows.{channel-of-put, put-case, length-put, length-post}
+use Rattle.basics.{proofs.Choices.ite-case, specs.Choice.ite}
+use Rattle.messages.specs.{Sends.Message, Tally.tally}
+use Rattle.channels.specs.{Channels.{byKind, channelAt, valueIn, room, joined, less}, Posting.{posted, post, posts}}
+use Rattle.channels.specs.declared.{Channel.Channel, Posted.Posted, Row.Row}
+use Rattle.channels.proofs.{ByKind.{not-at, but-write0, but-write1, kind-case}, Flying.cap-write}
 use Rattle.channels.proofs.Posting.{after, Fits, First, first-of, post-case}
 use Rattle.channels.proofs.Posts.{after-adds, RoomFor, posts-room, post-same, counts, counts-self}
+use Rattle.channels.proofs.Rows.{channel-of-put, put-case, length-put, length-post}
 
 -- ---- one channel
 

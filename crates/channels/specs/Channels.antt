@@ -2,16 +2,11 @@
 -- those of the wire: 0 and 1 WRITE of that bit, 2 READ, 3 PROCEED; of another kind there is nothing and no room.
 -- Assumes nothing.
 use Prim.Native.Nat.{ℕ, _+_, _-_}
-use mathlib.Core.Bool.{Bool, true, false, not}
-use mathlib.Core.List.{[]}
-use lib.Dec.{leb, ltb, eqb}
-use lib.ListN.{getD, replicate}
-use Rattle.basics.specs.Choice.{ite, both}
-use Rattle.basics.specs.Below.{oneIf, allBelow}
-use Rattle.tables.specs.declared.Hold.{Hold}
-use Rattle.tables.specs.Places.{noHold}
-use Rattle.channels.specs.declared.Channel.{Channel}
-use Rattle.channels.specs.declared.Row.{Row}
+use mathlib.Core.{Bool.{Bool, true, false, not}, List.[]}
+use lib.{Dec.{leb, ltb, eqb}, ListN.{getD, replicate}}
+use Rattle.basics.specs.{Below.{oneIf, allBelow}, Choice.{ite, both}}
+use Rattle.tables.specs.{Places.noHold, declared.Hold.Hold}
+use Rattle.channels.specs.declared.{Channel.Channel, Row.Row}
 
 -- by kind
 unfoldable pub byKind {ℓ} : {A : Type ℓ} → ℕ → A → A → A → A → A → A

@@ -2,17 +2,12 @@
 -- Once one finds no room, none is put.
 -- Assumes nothing.
 use Prim.Native.Nat.{ℕ, _-_}
-use mathlib.Core.Bool.{Bool, true, false}
-use mathlib.Core.List.{List, [], _∷_}
-use lib.Dec.{leb}
-use lib.ListN.{set}
+use mathlib.Core.{Bool.{Bool, true, false}, List.{List, [], _∷_}}
+use lib.{Dec.leb, ListN.set}
 use Rattle.basics.specs.Choice.{ite, both}
-use Rattle.messages.specs.declared.Sends.{Sends}
-use Rattle.messages.specs.Sends.{Message, messagesOf}
-use Rattle.channels.specs.declared.Channel.{Channel}
+use Rattle.messages.specs.{Sends.{Message, messagesOf}, declared.Sends.Sends}
+use Rattle.channels.specs.{Channels.{channelAt, room, joined, less}, declared.Channel.Channel, declared.Posted.Posted}
 use Rattle.channels.specs.declared.Row.{Row}
-use Rattle.channels.specs.declared.Posted.{Posted}
-use Rattle.channels.specs.Channels.{channelAt, room, joined, less}
 
 unfoldable pub withChannel : Row → ℕ → Channel → Row
 withChannel r j c = record { to = set (r .to) j c }

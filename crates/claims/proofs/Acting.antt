@@ -2,21 +2,17 @@
 -- down: the laws of crates/steps, each said of all steps at once.
 -- Assumes nothing.
 use Prim.Native.Nat.{ℕ}
-use mathlib.Core.Path.{_≡_, refl, sym, ap, subst, _∙_}
-use mathlib.Core.Logic.{_≢_}
+use mathlib.Core.{Logic._≢_, Path.{_≡_, refl, sym, ap, subst, _∙_}}
 use Rattle.promise.specs.View.{codeOf}
 use Rattle.house.specs.declared.Network.{Network}
-use Rattle.steps.specs.declared.Stepped.{Stepped}
-use Rattle.steps.specs.declared.Sought.{Sought}
-use Rattle.steps.specs.Steps.{writeTrials, readTrials, deliverTrials, loseTrials, checked, writeIn, readIn, deliverIn, loseIn}
-use Rattle.steps.proofs.Networks.{Good, good-test}
-use Rattle.steps.proofs.Settling.{checked-in-form, tried-accepted, step-done}
-use Rattle.steps.proofs.Keeping.{Kept, written-kept, begun-kept, delivered-kept, lost-kept}
-use Rattle.steps.proofs.WholeDrain.{sought-is, drained-none, drain-goes-on, drain-breaks-off, drain-fails, drained-deliveries, drained-still, drained-kept}
+use Rattle.steps.proofs.{Keeping.{Kept, written-kept, begun-kept, delivered-kept, lost-kept}, Networks.{Good, good-test}}
 use Rattle.steps.proofs.Powers.{write-down, read-down, deliver-down, drained-down}
 use Rattle.steps.proofs.Refusing.{OneOf, write-numbers, read-numbers, deliver-numbers, lose-numbers, drained-numbers}
-use Rattle.runs.specs.Runs.{Step, did, emptied, does}
-use Rattle.runs.specs.Runs.Step.{write, read, deliver, lose, drain}
+use Rattle.steps.proofs.Settling.{checked-in-form, tried-accepted, step-done}
+use Rattle.steps.proofs.WholeDrain.{sought-is, drained-none, drain-goes-on, drain-breaks-off, drain-fails, drained-deliveries, drained-still, drained-kept}
+use Rattle.steps.specs.Steps.{writeTrials, readTrials, deliverTrials, loseTrials, checked, writeIn, readIn, deliverIn, loseIn}
+use Rattle.steps.specs.declared.{Sought.Sought, Stepped.Stepped}
+use Rattle.runs.specs.Runs.{Step, did, emptied, does, Step.{write, read, deliver, lose, drain}}
 use Rattle.claims.specs.Acts.{Acts, ByDeliveries, numbers}
 
 module _ (s : Network) (g : Good s) where

@@ -1,19 +1,13 @@
 -- The cases that the description marks P, as one list of the definitions' own values, shown by one claim over it; and the
 -- description's listing as a run. What the numbers mean stands in specs/Shown. Right-hand sides are the description's.
 -- Assumes nothing.
-use mathlib.Core.Path.{_≡_, refl, ap}
-use mathlib.Core.List.{List, [], _∷_}
+use mathlib.Core.{List.{List, [], _∷_}, Path.{_≡_, refl, ap}}
 use Rattle.refusals.specs.Refusals.Event.{proceedFrom}
 use Rattle.steps.specs.SetUp.{freshNetwork}
-use Rattle.runs.specs.Runs.{Step, entries}
-use Rattle.runs.specs.Runs.Step.{write, read, lose, drain}
-use Rattle.runs.proofs.FromFresh.{start-holds}
-use Rattle.claims.specs.Shown.{totals}
-use Rattle.claims.specs.Noted.{WRITE0, WRITE1, READ, PROCEED, Note, Case, values}
-use Rattle.claims.specs.Noted.Note.{made, said, flying, held, waiting, lines}
-use Rattle.claims.specs.Noted.Case.{set-up, network, panel}
-use Rattle.claims.proofs.Spared.{entries-spared, values-spared}
-use Rattle.claims.proofs.Opened.{opened}
+use Rattle.runs.{proofs.FromFresh.start-holds, specs.Runs.{Step, entries}, specs.Runs.Step.{write, read, lose, drain}}
+use Rattle.claims.specs.Noted.{WRITE0, WRITE1, READ, PROCEED, Note, Case, values, Case.{set-up, network, panel}}
+use Rattle.claims.specs.{Noted.Note.{made, said, flying, held, waiting, lines}, Shown.totals}
+use Rattle.claims.proofs.{Opened.opened, Spared.{entries-spared, values-spared}}
 
 -- "n=3, t=1, writer 1 unless said"
 abbrev three : List Note → Case

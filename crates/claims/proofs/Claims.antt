@@ -5,46 +5,29 @@
 -- listing), and allows one outcome (proofs/Outcomes of each crate). So any sequence of calls is a run of the definitions.
 -- Assumes nothing.
 use Prim.Native.Nat.{ℕ, _-_, _≤_, _<_}
-use mathlib.Core.Path.{_≡_}
-use mathlib.Core.Bool.{true, false}
-use mathlib.Core.List.{List, _++_}
-use mathlib.Core.Logic.{_≢_}
+use mathlib.Core.{Bool.{true, false}, List.{List, _++_}, Logic._≢_, Path._≡_}
 use lib.ListN.{length}
 use Rattle.codec.specs.Numbers.{Bytes}
 use Rattle.wire.specs.declared.Taken.the-variants as Read
 use Rattle.wire.specs.Messages.{bytesOfMessage, reading}
 use Rattle.wire.proofs.Laws as wire
-use Rattle.form.specs.declared.Operation.the-variants.{Idle}
-use Rattle.form.specs.declared.Tables.{Tables}
-use Rattle.form.specs.Form.{fits}
+use Rattle.form.specs.{Form.fits, declared.Operation.the-variants.Idle, declared.Tables.Tables}
 use Rattle.refusals.specs.Refusals.{Event, refusal}
 use Rattle.events.specs.Events.{rule, lookedAt, happens}
 use Rattle.events.proofs.Kept as events
-use Rattle.promise.specs.View.{codeOf}
-use Rattle.promise.proofs.Happenings.{accepted}
+use Rattle.promise.{proofs.Happenings.accepted, specs.View.codeOf}
 use Rattle.channels.specs.Channels.{has}
+use Rattle.house.{proofs.Searching.Pair, specs.NetForm.netForm, specs.Places.{tablesAt, channelOf}, specs.Search.live}
 use Rattle.house.specs.declared.Network.{Network}
-use Rattle.house.specs.Places.{tablesAt, channelOf}
-use Rattle.house.specs.NetForm.{netForm}
-use Rattle.house.specs.Search.{live}
-use Rattle.house.proofs.Searching.{Pair}
+use Rattle.steps.proofs.{Delivering.{DeliverMoves, deliver-moves}, Keeping.Kept, Networks.Good, Powers.{Lost, lose-lost}, Refusing.OneOf}
+use Rattle.steps.{proofs.WholeDrain.drained-out-of-form, specs.Drain.{drainedTo, drained}, specs.SetUp.freshNetwork}
 use Rattle.steps.specs.Steps.{deliverIn, loseIn, delivered}
-use Rattle.steps.specs.Drain.{drainedTo, drained}
-use Rattle.steps.specs.SetUp.{freshNetwork}
-use Rattle.steps.proofs.Networks.{Good}
-use Rattle.steps.proofs.Keeping.{Kept}
-use Rattle.steps.proofs.Delivering.{DeliverMoves, deliver-moves}
-use Rattle.steps.proofs.WholeDrain.{drained-out-of-form}
-use Rattle.steps.proofs.Powers.{Lost, lose-lost}
-use Rattle.steps.proofs.Refusing.{OneOf}
 use Rattle.listing.specs.Listing.{listingOf}
 use Rattle.listing.proofs.Cases as sample
-use Rattle.runs.specs.Runs.{Step, does, after, entries, writes, reads, deliveries}
+use Rattle.runs.specs.{Claims.{Still, AllOrdinary, mostDeliveries}, Runs.{Step, does, after, entries, writes, reads, deliveries}}
 use Rattle.runs.specs.Runs.Step.{lose}
-use Rattle.runs.specs.Claims.{Still, AllOrdinary, mostDeliveries}
 use Rattle.runs.proofs.FromFresh as run
-use Rattle.claims.specs.Tried.{Call, answerOf, trialsOf, First, Rising, Unchanged}
-use Rattle.claims.specs.Acts.{Acts, ByDeliveries, numbers}
+use Rattle.claims.specs.{Acts.{Acts, ByDeliveries, numbers}, Tried.{Call, answerOf, trialsOf, First, Rising, Unchanged}}
 use Rattle.claims.proofs.InOrder as order
 use Rattle.claims.proofs.Rising as numbered
 use Rattle.claims.proofs.Unchanged as refused

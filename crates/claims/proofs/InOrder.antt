@@ -1,17 +1,12 @@
 -- Every call answers by the first of its trials that applies, 0 where none does.
 -- Assumes nothing.
 use Prim.Native.Nat.{ℕ, _-_, _<_}
-use mathlib.Core.Path.{_≡_, refl, sym, ap, subst, _∙_}
-use mathlib.Core.Bool.{not}
-use mathlib.Core.List.{List, [], _∷_}
+use mathlib.Core.{Bool.not, List.{List, [], _∷_}, Path.{_≡_, refl, sym, ap, subst, _∙_}}
 use native.Mathlib.Omega.{arith}
-use lib.Dec.{lit<}
-use lib.ListN.{getD}
+use lib.{Dec.lit<, ListN.getD}
 use borrow.Author.Tests.{ltb-true, ltb-false, not-true, not-false}
-use Rattle.basics.specs.Refusal.{refuse, firstOf}
-use Rattle.basics.proofs.Choices.{ite-true, ite-false}
-use Rattle.codec.specs.Items.{Taken, itemAt}
-use Rattle.codec.specs.Items.Taken.{taken, refused}
+use Rattle.basics.{proofs.Choices.{ite-true, ite-false}, specs.Refusal.{refuse, firstOf}}
+use Rattle.codec.specs.Items.{Taken, itemAt, Taken.{taken, refused}}
 use Rattle.wire.specs.Messages.{wire, messageOf, Written}
 use Rattle.wire.specs.Messages as wires
 use Rattle.wire.proofs.Cases as messages
@@ -20,27 +15,16 @@ use Rattle.schedule.specs.Records as schedules
 use Rattle.schedule.proofs.Cases as entries
 use Rattle.messages.specs.Area.{roomOf}
 use Rattle.form.proofs.InForm.{InForm}
-use Rattle.refusals.specs.Refusals.{refusal}
-use Rattle.refusals.specs.Refusals.Event.{write, read}
-use Rattle.panel.specs.declared.Made.{Made}
-use Rattle.panel.specs.Calls.{told, called, made}
-use Rattle.panel.proofs.Calling.{made-unfit, made-elsewhere, made-done}
-use Rattle.promise.specs.View.{codeOf}
-use Rattle.promise.proofs.Answers.{at-writer, peer-test}
-use Rattle.promise.proofs.AfterEvents.{after-code}
-use Rattle.promise.proofs.Happenings.{code-is}
+use Rattle.refusals.specs.Refusals.{refusal, Event.{write, read}}
+use Rattle.panel.{proofs.Calling.{made-unfit, made-elsewhere, made-done}, specs.Calls.{told, called, made}, specs.declared.Made.Made}
+use Rattle.promise.{proofs.AfterEvents.after-code, proofs.Answers.{at-writer, peer-test}, proofs.Happenings.code-is, specs.View.codeOf}
 use Rattle.channels.proofs.ByKind.{kind-case}
-use Rattle.house.specs.declared.Network.{Network}
-use Rattle.house.specs.Places.{tablesAt, nOf, writerOf}
-use Rattle.house.specs.NetForm.{netForm}
-use Rattle.house.proofs.NetForms.{Formed, form-view, writer-low, writer-high}
-use Rattle.steps.specs.declared.Sought.{Sought}
-use Rattle.steps.specs.Search.{sought}
+use Rattle.house.{proofs.NetForms.{Formed, form-view, writer-low, writer-high}, specs.NetForm.netForm}
+use Rattle.house.specs.{Places.{tablesAt, nOf, writerOf}, declared.Network.Network}
+use Rattle.steps.proofs.{AtStart.{set-up-taken, set-up-refused}, Passing.{receiver-place, may-read, MayDeliver, may-deliver}}
+use Rattle.steps.{proofs.Settling.code-nothing, specs.Moves.arriving, specs.Search.sought}
 use Rattle.steps.specs.Steps.{writeTrials, readTrials, deliverTrials, loseTrials, comes, writeIn, readIn, deliverIn, loseIn, written, begun, delivered, lost}
-use Rattle.steps.specs.Moves.{arriving}
-use Rattle.steps.proofs.AtStart.{set-up-taken, set-up-refused}
-use Rattle.steps.proofs.Settling.{code-nothing}
-use Rattle.steps.proofs.Passing.{receiver-place, may-read, MayDeliver, may-deliver}
+use Rattle.steps.specs.declared.Sought.{Sought}
 use Rattle.listing.proofs.Answering as listed
 use Rattle.claims.specs.Tried.{Call, readNumber, wroteNumber, answerOf, stepTrials, without, itemTrials, trialsOf, First}
 use Rattle.claims.proofs.Trying.{first-of, tries, passes, itemNumber, item-first, Settled, checked-first, step-first}
@@ -113,7 +97,7 @@ module _ (s : List ℕ) where
 
 -- ---- all calls
 
-answers : (c : Call) → answerOf c ≡ firstOf (trialsOf c)
+pub answers : (c : Call) → answerOf c ≡ firstOf (trialsOf c)
 unfolding answerOf trialsOf refusal wroteNumber called told
 answers (Call.set-up-panel n t writer i v) =
     tries _ (λ e. refused-by (made-unfit n t writer i v (not-true _ e))) λ e.

@@ -8,3 +8,5 @@ pub mod Spared
 pub mod Opened
 pub mod Cases
 pub mod Witnesses
+pub mod Added
+pub mod Placed

@@ -1,31 +1,24 @@
 -- The definitions that cases compute with, layer by layer. A claim over spared cases says `unfolding opened`; one that has a network
 -- tested for form says `unfolding opened-whole`.
 -- Assumes nothing.
-use Rattle.basics.specs.Choice.{ite, both}
-use Rattle.basics.specs.Below.{oneIf, allBelow, countBelow, listBelow}
-use Rattle.basics.specs.Refusal.{firstOf}
-use Rattle.messages.specs.Sends.{castBelow, castOf, proceedsTo, messagesOf, noCast, noSends}
-use Rattle.messages.specs.Area.{laid, laidIn, roomOf}
+use Rattle.basics.specs.{Below.{oneIf, allBelow, countBelow, listBelow}, Choice.{ite, both}, Refusal.firstOf}
+use Rattle.messages.specs.{Area.{laid, laidIn, roomOf}, Sends.{castBelow, castOf, proceedsTo, messagesOf, noCast, noSends}}
+use Rattle.tables.specs.{Form.{entryOk, lineOk, holdOk, quietOk, unknownOk, historyOk}, Lines.{joined, leading, leaving, without}}
 use Rattle.tables.specs.Marks.{hasW, reachesW, hasR, among, marks, enough, isOther, onlyPlace}
-use Rattle.tables.specs.Form.{entryOk, lineOk, holdOk, quietOk, unknownOk, historyOk}
-use Rattle.tables.specs.Lines.{joined, leading, leaving, without}
 use Rattle.channels.specs.Channels as channel
 use Rattle.channels.specs.Posting.{withChannel, fitsIn, post, posts, postedAll, taken}
 use Rattle.form.specs.Form as form
 use Rattle.unused.specs.Unused as unused
 use Rattle.refusals.specs.Refusals as refusal
+use Rattle.events.specs.{Events.{rule, refusedBy, lookedAt, happens}, Look.{lookWriting, lookSecond, lookFirst, lookAs, look}}
 use Rattle.events.specs.Rules.{valueOf, learned, spread, writeRule, readRule, reached, take, takeHeld, released, takeRule, holdRule, readFromRule, proceedRule}
-use Rattle.events.specs.Look.{lookWriting, lookSecond, lookFirst, lookAs, look}
-use Rattle.events.specs.Events.{rule, refusedBy, lookedAt, happens}
 use Rattle.panel.specs.Calls as panel
 use Rattle.protocol.specs.Counts.{sumBelow, panelLoad, outLoad, load}
 use Rattle.promise.specs.View.{viewOf, codeOf}
 use Rattle.house.specs.NetForm as net
 use Rattle.house.specs.Search.{live, firstBelow, spotAt, ofPair, ofSender, firstIn}
-use Rattle.steps.specs.Numbers.{loadOf}
-use Rattle.steps.specs.SetUp.{freshNetwork, setUp}
+use Rattle.steps.specs.{Drain.{nextIn, drainBy, drainIn, drained}, Numbers.loadOf, SetUp.{freshNetwork, setUp}}
 use Rattle.steps.specs.Steps as step
-use Rattle.steps.specs.Drain.{nextIn, drainBy, drainIn, drained}
 use Rattle.runs.specs.Runs as run
 use Rattle.runs.specs.Claims.{mostDeliveries}
 use Rattle.claims.specs.Shown as shown

@@ -1,23 +1,18 @@
 -- What a call tries is tried from low to high: in each list of trials the numbers rise. By a test that computes over the list.
 -- Assumes nothing.
 use Prim.Native.Nat.{ℕ, _-_}
-use mathlib.Core.Path.{_≡_, refl}
-use mathlib.Core.Bool.{Bool, true}
-use mathlib.Core.List.{List, [], _∷_}
+use mathlib.Core.{Bool.{Bool, true}, List.{List, [], _∷_}, Path.{_≡_, refl}}
 use lib.Dec.{ltb}
 use borrow.Author.Tests.{ltb-true}
-use Rattle.basics.specs.Choice.{ite, both}
-use Rattle.basics.specs.Refusal.{Trial}
-use Rattle.basics.proofs.Choices.{both-left, both-right}
+use Rattle.basics.{proofs.Choices.{both-left, both-right}, specs.Choice.{ite, both}, specs.Refusal.Trial}
 use Rattle.messages.specs.Area.{roomOf}
 use Rattle.form.specs.declared.Tables.{Tables}
 use Rattle.refusals.specs.Refusals.{Event, firstTrials, peerTrials, writeFromTrials, readFromTrials, proceedFromTrials, trials}
-use Rattle.refusals.specs.Refusals as refusals
 use Rattle.refusals.specs.Refusals.Event.{write, read, writeFrom, readFrom, proceedFrom}
+use Rattle.refusals.specs.Refusals as refusals
 use Rattle.channels.proofs.ByKind.{kind-case}
 use Rattle.house.specs.declared.Network.{Network}
-use Rattle.steps.specs.Steps.{writeTrials, readTrials, deliverTrials, loseTrials, comes}
-use Rattle.steps.specs.Moves.{arriving}
+use Rattle.steps.specs.{Moves.arriving, Steps.{writeTrials, readTrials, deliverTrials, loseTrials, comes}}
 use Rattle.claims.specs.Tried.{Call, above, stepTrials, without, itemTrials, trialsOf, Rising}
 
 rises : ℕ → List Trial → Bool

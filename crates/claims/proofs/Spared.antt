@@ -2,30 +2,18 @@
 -- the time.
 -- Assumes nothing.
 use Prim.Native.Nat.{ℕ}
-use mathlib.Core.Path.{_≡_, refl, ap, ap₂, _∙_}
-use mathlib.Core.Bool.{true}
-use mathlib.Core.List.{List, [], _∷_, _++_}
-use Rattle.basics.specs.Choice.{ite}
-use Rattle.basics.proofs.Choices.{ite-true, ite-case}
+use mathlib.Core.{Bool.true, List.{List, [], _∷_, _++_}, Path.{_≡_, refl, ap, ap₂, _∙_}}
+use Rattle.basics.{proofs.Choices.{ite-true, ite-case}, specs.Choice.ite}
 use Rattle.form.specs.Form.{fits}
-use Rattle.house.specs.declared.Network.{Network}
-use Rattle.house.specs.NetForm.{netForm}
+use Rattle.house.specs.{NetForm.netForm, declared.Network.Network}
+use Rattle.steps.{proofs.Networks.good-test, proofs.Settling.checked-in-form, specs.Drain.{drainIn, drained}}
+use Rattle.steps.specs.{SetUp.{setUp, freshNetwork}, Steps.{writeIn, readIn, deliverIn, loseIn}, declared.Drained.Drained}
 use Rattle.steps.specs.declared.Stepped.{Stepped}
-use Rattle.steps.specs.declared.Drained.{Drained}
-use Rattle.steps.specs.SetUp.{setUp, freshNetwork}
-use Rattle.steps.specs.Steps.{writeIn, readIn, deliverIn, loseIn}
-use Rattle.steps.specs.Drain.{drainIn, drained}
-use Rattle.steps.proofs.Networks.{good-test}
-use Rattle.steps.proofs.Settling.{checked-in-form}
-use Rattle.runs.specs.Runs.{Step, Did, did, emptied, does, after, Entry, entries}
-use Rattle.runs.specs.Runs.Step.{write, read, deliver, lose, drain}
-use Rattle.runs.proofs.Holding.{Holds}
-use Rattle.runs.proofs.Running.{step-fares, run-holds}
-use Rattle.runs.proofs.FromFresh.{start-holds}
-use Rattle.claims.specs.Shown.{answered, counted, flyingFrom, heldAt, waitingAt, doingAt, drainLines}
-use Rattle.claims.specs.Noted.{Note, told, noted, Case, valuesOf, values}
+use Rattle.runs.proofs.{FromFresh.start-holds, Holding.Holds, Running.{step-fares, run-holds}}
+use Rattle.runs.specs.Runs.{Step, Did, did, emptied, does, after, Entry, entries, Step.{write, read, deliver, lose, drain}}
+use Rattle.claims.specs.Noted.{Note, told, noted, Case, valuesOf, values, Case.{set-up, network, panel}}
 use Rattle.claims.specs.Noted.Note.{made, said, flying, held, waiting, doing, lines}
-use Rattle.claims.specs.Noted.Case.{set-up, network, panel}
+use Rattle.claims.specs.Shown.{answered, counted, flyingFrom, heldAt, waitingAt, doingAt, drainLines}
 
 -- ---- a step of a network in form
 

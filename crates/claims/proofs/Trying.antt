@@ -2,39 +2,25 @@
 -- a step of a network.
 -- Assumes nothing.
 use Prim.Native.Nat.{ℕ}
-use mathlib.Core.Path.{_≡_, refl, sym, ap, _∙_}
-use mathlib.Core.Bool.{Bool, true, false, not}
-use mathlib.Core.List.{List, [], _∷_, _++_}
-use native.Mathlib.Decide.{ℕ-discrete}
-use native.Mathlib.Omega.{arith}
+use mathlib.Core.{Bool.{Bool, true, false, not}, List.{List, [], _∷_, _++_}, Path.{_≡_, refl, sym, ap, _∙_}}
+use native.Mathlib.{Decide.ℕ-discrete, Omega.arith}
 use lib.Dec.{lit<}
 use borrow.Author.Tests.{lt-ltb, le-ltb, lt-leb, le-leb, ltb-true, not-true, not-false}
-use Rattle.basics.specs.Choice.{ite}
-use Rattle.basics.specs.Refusal.{Trial, refuse, firstOf}
 use Rattle.basics.proofs.Choices.{ite-true, ite-false, ite-case, both-true, both-false-left, both-false-right}
-use Rattle.basics.proofs.Refusals.{Numbered, first-given, first-not, first-past, first-stops, first-none}
-use Rattle.codec.specs.Items.{Format, Taken, itemAt}
+use Rattle.basics.{proofs.Refusals.{Numbered, first-given, first-not, first-past, first-stops, first-none}, specs.Choice.ite}
+use Rattle.basics.specs.Refusal.{Trial, refuse, firstOf}
+use Rattle.codec.{proofs.Items.{Seen, seen}, proofs.Items.Seen.{none, unknown, cut, whole}, specs.Items.{Format, Taken, itemAt}}
 use Rattle.codec.specs.Items.Taken.{taken, refused}
-use Rattle.codec.proofs.Items.{Seen, seen}
-use Rattle.codec.proofs.Items.Seen.{none, unknown, cut, whole}
-use Rattle.form.specs.declared.Tables.{Tables}
-use Rattle.form.specs.Form.{atWriter}
-use Rattle.form.proofs.InForm.{InForm, form-of}
+use Rattle.form.{proofs.InForm.{InForm, form-of}, specs.Form.atWriter, specs.declared.Tables.Tables}
+use Rattle.refusals.proofs.Refusing.{first-0, peer-0}
 use Rattle.refusals.specs.Refusals.{Event, isPeer, firstTrials, peerTrials, writeTrials, readTrials, writeFromTrials, readFromTrials, proceedFromTrials, trials, refusal}
 use Rattle.refusals.specs.Refusals.Event.{write, read, writeFrom, readFrom, proceedFrom}
-use Rattle.refusals.proofs.Refusing.{first-0, peer-0}
-use Rattle.panel.specs.Calls.{after}
-use Rattle.promise.specs.View.{codeOf}
-use Rattle.promise.proofs.Answers.{write-refusal, read-refusal}
-use Rattle.promise.proofs.AfterEvents.{after-code}
+use Rattle.panel.specs.{Calls.after, declared.Next.Next}
+use Rattle.promise.{proofs.AfterEvents.after-code, proofs.Answers.{write-refusal, read-refusal}, specs.View.codeOf}
 use Rattle.channels.specs.Posting.{postedAll}
-use Rattle.house.specs.declared.Network.{Network}
-use Rattle.house.specs.Places.{panelAt, tablesAt, rowAt}
-use Rattle.house.specs.NetForm.{netForm}
-use Rattle.panel.specs.declared.Next.{Next}
-use Rattle.steps.specs.declared.Stepped.{Stepped}
-use Rattle.steps.specs.Steps.{tried, settled, checked}
+use Rattle.house.specs.{NetForm.netForm, Places.{panelAt, tablesAt, rowAt}, declared.Network.Network}
 use Rattle.steps.proofs.Settling.{code-refused, checked-in-form, checked-refused, tried-case, settled-refused, settled-full, settled-done}
+use Rattle.steps.specs.{Steps.{tried, settled, checked}, declared.Stepped.Stepped}
 use Rattle.claims.specs.Tried.{First, above, stepTrials, itemTrials}
 
 -- ---- one trial after another

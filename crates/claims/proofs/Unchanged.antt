@@ -1,41 +1,25 @@
 -- "A refusal gives its number only and alters no table, channel or buffer", of every call.
 -- Assumes nothing.
 use Prim.Native.Nat.{ℕ, zero, suc, _+_}
-use mathlib.Core.Path.{_≡_, refl, sym, ap, _∙_}
-use mathlib.Core.Bool.{Bool, true, false}
-use mathlib.Core.List.{List, []}
-use mathlib.Core.Logic.{_≢_}
+use mathlib.Core.{Bool.{Bool, true, false}, List.{List, []}, Logic._≢_, Path.{_≡_, refl, sym, ap, _∙_}}
 use native.Mathlib.Omega.{arith}
-use lib.Dec.{ltb}
-use lib.ListN.{length}
+use lib.{Dec.ltb, ListN.length}
 use borrow.Author.Tests.{eqb-true, ltb-true, ltb-false}
-use Rattle.basics.specs.Refusal.{Trial}
-use Rattle.basics.proofs.Choices.{ite-case}
-use Rattle.wire.specs.declared.Put.{Put}
-use Rattle.wire.specs.declared.Put.the-variants.{Used, Refused}
-use Rattle.wire.specs.Messages.{writing}
+use Rattle.basics.{proofs.Choices.ite-case, specs.Refusal.Trial}
+use Rattle.wire.specs.{Messages.writing, declared.Put.Put, declared.Put.the-variants.{Used, Refused}}
 use Rattle.wire.proofs.Writing as message
 use Rattle.schedule.proofs.Writing as entry
-use Rattle.messages.specs.Sends.{Message, messagesOf}
-use Rattle.messages.specs.Area.{Area, laidIn, roomOf}
-use Rattle.messages.proofs.Laying.{further-none}
+use Rattle.messages.{proofs.Laying.further-none, specs.Area.{Area, laidIn, roomOf}, specs.Sends.{Message, messagesOf}}
 use Rattle.form.specs.declared.Tables.{Tables}
 use Rattle.refusals.specs.Refusals.{Event, refusal}
 use Rattle.events.specs.Events.{happens}
-use Rattle.panel.specs.declared.Panel.{Panel}
-use Rattle.panel.specs.declared.Next.{Next}
-use Rattle.panel.specs.Calls.{panelOf, nextOf, after, told, called}
-use Rattle.promise.specs.View.{codeOf}
-use Rattle.promise.proofs.AfterEvents.{after-code}
-use Rattle.promise.proofs.Happenings.{code-is, refused-tables, refused-messages}
+use Rattle.panel.specs.{Calls.{panelOf, nextOf, after, told, called}, declared.Next.Next, declared.Panel.Panel}
+use Rattle.promise.{proofs.AfterEvents.after-code, proofs.Happenings.{code-is, refused-tables, refused-messages}, specs.View.codeOf}
 use Rattle.house.specs.declared.Network.{Network}
-use Rattle.steps.specs.declared.Stepped.{Stepped}
-use Rattle.steps.specs.declared.Drained.{Drained}
-use Rattle.steps.specs.Steps.{tried, settled, checked, writeIn, readIn, deliverIn, loseIn, written, begun, delivered, lost}
+use Rattle.steps.{proofs.Draining.by-case, proofs.Settling.code-nothing, specs.Drain.{nextIn, drainBy, drainIn, drained}}
 use Rattle.steps.specs.Numbers.{loadOf}
-use Rattle.steps.specs.Drain.{nextIn, drainBy, drainIn, drained}
-use Rattle.steps.proofs.Settling.{code-nothing}
-use Rattle.steps.proofs.Draining.{by-case}
+use Rattle.steps.specs.Steps.{tried, settled, checked, writeIn, readIn, deliverIn, loseIn, written, begun, delivered, lost}
+use Rattle.steps.specs.declared.{Drained.Drained, Stepped.Stepped}
 use Rattle.listing.specs.Listing.{longest, listing}
 use Rattle.listing.proofs.Answering as listed
 use Rattle.claims.specs.Tried.{Call, wroteNumber, answerOf, SamePanel, SameBare, Unchanged}

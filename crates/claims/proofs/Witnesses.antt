@@ -3,34 +3,21 @@
 -- a call that meets it. (15 to 17 are refusals of bytes.)
 -- Assumes nothing.
 use Prim.Native.Nat.{ℕ}
-use mathlib.Core.Path.{_≡_, refl, ap}
-use mathlib.Core.Bool.{true}
-use mathlib.Core.List.{List, [], _∷_}
+use mathlib.Core.{Bool.true, List.{List, [], _∷_}, Path.{_≡_, refl, ap}}
 use lib.ListN.{set, replicate}
 use Rattle.messages.specs.Area.{Area}
-use Rattle.tables.specs.declared.WriteNo.{WriteNo}
-use Rattle.tables.specs.declared.Hold.{Hold}
-use Rattle.tables.specs.Places.{noWrite, noRead, noHold}
-use Rattle.form.specs.declared.Tables.{Tables}
-use Rattle.form.specs.Form.{fresh}
-use Rattle.form.specs.Setting.{setW, setR, setHeld, setLines}
+use Rattle.tables.specs.{Places.{noWrite, noRead, noHold}, declared.Hold.Hold, declared.WriteNo.WriteNo}
+use Rattle.form.specs.{Form.fresh, Setting.{setW, setR, setHeld, setLines}, declared.Tables.Tables}
 use Rattle.refusals.specs.Refusals.Event.{write as writeEvent}
 use Rattle.panel.specs.Calls as calls
+use Rattle.channels.specs.{Channels.{noChannel, withWrite0, withWrite1, withReads, withProceeds}, Posting.withChannel}
 use Rattle.channels.specs.declared.Channel.{Channel}
-use Rattle.channels.specs.Channels.{noChannel, withWrite0, withWrite1, withReads, withProceeds}
-use Rattle.channels.specs.Posting.{withChannel}
-use Rattle.house.specs.declared.Network.{Network}
-use Rattle.house.specs.Places.{rowAt, withPanel, withRow, withDown}
+use Rattle.house.specs.{Places.{rowAt, withPanel, withRow, withDown}, declared.Network.Network}
 use Rattle.steps.specs.SetUp.{freshNetwork}
-use Rattle.runs.specs.Runs.{Step, entries}
-use Rattle.runs.specs.Runs.Step.{write, read, lose, drain}
-use Rattle.runs.proofs.FromFresh.{start-holds}
-use Rattle.claims.specs.Shown.{answered, totals}
-use Rattle.claims.specs.Noted.{WRITE0, WRITE1, READ, PROCEED, Note, Case, told, noted, values}
-use Rattle.claims.specs.Noted.Note.{made, said, flying, held, waiting, doing, lines}
-use Rattle.claims.specs.Noted.Case.{set-up, network, panel}
-use Rattle.claims.proofs.Spared.{entries-spared, values-spared}
-use Rattle.claims.proofs.Opened.{opened, opened-whole}
+use Rattle.runs.{proofs.FromFresh.start-holds, specs.Runs.{Step, entries}, specs.Runs.Step.{write, read, lose, drain}}
+use Rattle.claims.specs.Noted.{WRITE0, WRITE1, READ, PROCEED, Note, Case, told, noted, values, Case.{set-up, network, panel}}
+use Rattle.claims.specs.{Noted.Note.{made, said, flying, held, waiting, doing, lines}, Shown.{answered, totals}}
+use Rattle.claims.proofs.{Opened.{opened, opened-whole}, Spared.{entries-spared, values-spared}}
 
 -- ---- operations that wait, and finish
 

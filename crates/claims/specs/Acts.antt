@@ -1,26 +1,16 @@
 -- What an accepted step of a network does, step by step; a drain in the words of the other calls; and the numbers that each step meets.
 -- Assumes nothing.
 use Prim.Native.Nat.{ℕ, _+_, _-_}
-use mathlib.Core.Path.{_≡_}
-use mathlib.Core.Bool.{true, false}
-use mathlib.Core.List.{List, [], _∷_}
-use mathlib.Core.Logic.{_≢_}
+use mathlib.Core.{Bool.{true, false}, List.{List, [], _∷_}, Logic._≢_, Path._≡_}
 use Rattle.refusals.specs.Refusals.{Event}
 use Rattle.events.specs.declared.Answer.the-variants.{Nothing}
-use Rattle.panel.specs.declared.Next.{Next}
-use Rattle.panel.specs.Calls.{after}
+use Rattle.panel.specs.{Calls.after, declared.Next.Next}
 use Rattle.promise.specs.View.{codeOf}
 use Rattle.channels.specs.Posting.{postedAll}
-use Rattle.house.specs.declared.Network.{Network}
-use Rattle.house.specs.Places.{panelAt, rowAt, writerOf, withPanel, withRow, withDown}
-use Rattle.house.specs.Search.{firstIn}
+use Rattle.house.specs.{Places.{panelAt, rowAt, writerOf, withPanel, withRow, withDown}, Search.firstIn, declared.Network.Network}
+use Rattle.steps.specs.{Drain.{drainedTo, drained}, Moves.{arriving, Deliveries}, Search.sought, Steps.{written, begun, delivered, lost}}
 use Rattle.steps.specs.declared.Stepped.{Stepped}
-use Rattle.steps.specs.Steps.{written, begun, delivered, lost}
-use Rattle.steps.specs.Search.{sought}
-use Rattle.steps.specs.Moves.{arriving, Deliveries}
-use Rattle.steps.specs.Drain.{drainedTo, drained}
-use Rattle.runs.specs.Runs.{Step}
-use Rattle.runs.specs.Runs.Step.{write, read, deliver, lose, drain}
+use Rattle.runs.specs.Runs.{Step, Step.{write, read, deliver, lose, drain}}
 use Rattle.claims.specs.Tried.{without}
 
 -- ---- an accepted step

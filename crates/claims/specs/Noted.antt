@@ -6,11 +6,8 @@ use mathlib.Core.List.{List, [], _∷_, _++_}
 use Rattle.refusals.specs.Refusals.{Event}
 use Rattle.panel.specs.Calls as calls
 use Rattle.house.specs.declared.Network.{Network}
-use Rattle.steps.specs.SetUp.{setUp}
-use Rattle.steps.specs.Steps.{written, begun, delivered, lost}
-use Rattle.steps.specs.Drain.{drained}
-use Rattle.runs.specs.Runs.{Step, does, after}
-use Rattle.runs.specs.Runs.Step.{write, read, deliver, lose, drain}
+use Rattle.steps.specs.{Drain.drained, SetUp.setUp, Steps.{written, begun, delivered, lost}}
+use Rattle.runs.specs.Runs.{Step, does, after, Step.{write, read, deliver, lose, drain}}
 use Rattle.claims.specs.Shown.{answered, counted, flyingFrom, heldAt, waitingAt, doingAt, drainLines}
 
 -- ---- deliveries, from panel i to panel j

@@ -3,25 +3,14 @@
 use Prim.Native.Nat.{ℕ, zero, suc, _+_, _-_}
 use mathlib.Core.List.{List, [], _∷_, _++_, map}
 use lib.Dec.{eqb}
-use Rattle.basics.specs.Choice.{ite}
-use Rattle.basics.specs.Below.{listBelow}
-use Rattle.tables.specs.declared.Hold.{Hold}
-use Rattle.tables.specs.declared.Line.{Line}
-use Rattle.tables.specs.Places.{wAt, holdAt, lineAt}
-use Rattle.form.specs.declared.Operation.{Operation}
-use Rattle.form.specs.declared.Operation.the-variants.{Idle, Writing, FirstWait, SecondWait}
-use Rattle.events.specs.declared.Answer.{Answer}
-use Rattle.events.specs.declared.Answer.the-variants.{Refused, Nothing, Wrote, Gave}
-use Rattle.channels.specs.declared.Channel.{Channel}
-use Rattle.channels.specs.Channels.{inFlight, valueIn}
-use Rattle.house.specs.declared.Network.{Network}
-use Rattle.house.specs.declared.Found.{Found}
-use Rattle.house.specs.Places.{tablesAt, channelOf}
-use Rattle.house.specs.Search.{firstIn}
-use Rattle.steps.specs.declared.Drained.{Drained}
-use Rattle.steps.specs.Drain.{nextIn}
-use Rattle.runs.specs.Runs.{Entry, writes, reads, deliveries}
-use Rattle.runs.specs.Claims.{mostDeliveries}
+use Rattle.basics.specs.{Below.listBelow, Choice.ite}
+use Rattle.tables.specs.{Places.{wAt, holdAt, lineAt}, declared.Hold.Hold, declared.Line.Line}
+use Rattle.form.specs.declared.Operation.{Operation, the-variants.{Idle, Writing, FirstWait, SecondWait}}
+use Rattle.events.specs.declared.Answer.{Answer, the-variants.{Refused, Nothing, Wrote, Gave}}
+use Rattle.channels.specs.{Channels.{inFlight, valueIn}, declared.Channel.Channel}
+use Rattle.house.specs.{Places.{tablesAt, channelOf}, Search.firstIn, declared.Found.Found, declared.Network.Network}
+use Rattle.steps.specs.{Drain.nextIn, declared.Drained.Drained}
+use Rattle.runs.specs.{Claims.mostDeliveries, Runs.{Entry, writes, reads, deliveries}}
 
 -- ---- answers
 

@@ -3,38 +3,25 @@
 -- area, and those of `reader`, which read at the place that it keeps.
 -- Assumes nothing.
 use Prim.Native.Nat.{ℕ, _+_, _-_, _<_}
-use mathlib.Core.Path.{_≡_}
-use mathlib.Core.Bool.{true, false, not}
-use mathlib.Core.List.{List, [], _∷_, _++_}
-use lib.Dec.{leb, ltb}
-use lib.ListN.{length, getD}
-use Rattle.basics.specs.Choice.{ite, both}
-use Rattle.basics.specs.Refusal.{Trial, refuse}
+use mathlib.Core.{Bool.{true, false, not}, List.{List, [], _∷_, _++_}, Path._≡_}
+use lib.{Dec.{leb, ltb}, ListN.{length, getD}}
+use Rattle.basics.specs.{Choice.{ite, both}, Refusal.{Trial, refuse}}
 use Rattle.codec.specs.Items.{Format, sizeOf}
-use Rattle.wire.specs.declared.Taken.{Taken}
+use Rattle.wire.specs.{Messages.{wire, sendable}, declared.Put.Put, declared.Taken.Taken}
 use Rattle.wire.specs.declared.Taken.the-variants as Read
-use Rattle.wire.specs.declared.Put.{Put}
 use Rattle.wire.specs.declared.Put.the-variants as Wrote
-use Rattle.wire.specs.Messages.{wire, sendable}
 use Rattle.wire.specs.Messages as wires
-use Rattle.schedule.specs.declared.Record.{Record}
-use Rattle.schedule.specs.Records.{records, writable}
+use Rattle.schedule.specs.{Records.{records, writable}, declared.Record.Record}
 use Rattle.schedule.specs.Records as schedules
-use Rattle.messages.specs.Sends.{messagesOf}
-use Rattle.messages.specs.Area.{Area, roomOf}
+use Rattle.messages.specs.{Area.{Area, roomOf}, Sends.messagesOf}
 use Rattle.form.specs.Form.{fits, isPanel}
 use Rattle.refusals.specs.Refusals.{Event, trials}
-use Rattle.panel.specs.declared.Panel.{Panel}
-use Rattle.panel.specs.Calls.{made, after, called}
+use Rattle.panel.specs.{Calls.{made, after, called}, declared.Panel.Panel}
 use Rattle.promise.specs.View.{codeOf}
 use Rattle.channels.specs.Posting.{postedAll, taken}
-use Rattle.house.specs.declared.Network.{Network}
-use Rattle.house.specs.Places.{panelAt, tablesAt, rowAt, writerOf, withRow}
-use Rattle.house.specs.NetForm.{netForm}
-use Rattle.steps.specs.SetUp.{setUp}
-use Rattle.steps.specs.Search.{sought}
+use Rattle.house.specs.{NetForm.netForm, Places.{panelAt, tablesAt, rowAt, writerOf, withRow}, declared.Network.Network}
+use Rattle.steps.specs.{Moves.arriving, Search.sought, SetUp.setUp}
 use Rattle.steps.specs.Steps.{writeTrials, readTrials, deliverTrials, loseTrials, written, begun, delivered, lost}
-use Rattle.steps.specs.Moves.{arriving}
 use Rattle.listing.specs.Listing.{longest, listing}
 
 pub data Call : Type 0 where

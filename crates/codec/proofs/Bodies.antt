@@ -1,14 +1,10 @@
 -- The laws of a body, a row of numbers of given widths: read back, written back, and its length.
 -- Assumes nothing.
-use mathlib.Core.Path.{_≡_, refl, sym, ap, ap₂, subst, _∙_}
-use mathlib.Core.List.{List, [], _∷_, _++_, append-assoc}
-use Prim.Native.Nat.{ℕ, zero, suc, _+_, _≤_}
-use native.Mathlib.Nat.{add-suc, suc-add, add-zero, zero-add, add-comm}
-use native.Mathlib.Omega.{arith}
-use lib.ListN.{length, length-append, take, drop}
-use lib.Seq.{take-add, drop-drop}
-use Rattle.codec.specs.Numbers.{bytesOf, numberAt, Bytes}
-use Rattle.codec.specs.Items.{total, bodyOf, numbersAt, Fits}
+use mathlib.Core.{List.{List, [], _∷_, _++_, append-assoc}, Path.{_≡_, refl, sym, ap, ap₂, _∙_}}
+use Prim.Native.Nat.{ℕ, suc, _+_, _≤_}
+use native.Mathlib.{Nat.{add-suc, add-zero, add-comm}, Omega.arith}
+use lib.{ListN.{length, length-append, take, drop}, Seq.{take-add, drop-drop}}
+use Rattle.codec.specs.{Items.{total, bodyOf, numbersAt, Fits}, Numbers.{bytesOf, numberAt, Bytes}}
 use Rattle.codec.proofs.Numbers.{length-bytesOf, numberAt-cons, numberAt-fits, number-written, number-read}
 
 pub numbersAt-cons : (ks : List ℕ) (b : ℕ) (s : List ℕ) (at : ℕ) → numbersAt ks (b ∷ s) (suc at) ≡ numbersAt ks s at

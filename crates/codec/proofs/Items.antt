@@ -3,24 +3,16 @@
 -- another's (`written-prefix-free`), and what is accepted or refused exactly when (`accepted-iff`, `refused-15-iff`,
 -- `refused-16-iff`, `refused-only`).
 -- Assumes nothing.
-use mathlib.Core.Path.{_≡_, refl, sym, ap, ap₂, subst, subst₂, _∙_}
-use mathlib.Core.Bool.{Bool, true, false}
-use mathlib.Core.List.{List, [], _∷_, _++_, append-nil}
-use mathlib.Core.Logic.{_⊎_, inl, inr, _↔_}
-use Prim.Native.Nat.{ℕ, zero, suc, _+_, _≤_, _<_}
-use native.Mathlib.Nat.{add-suc, suc-add, add-zero, zero-add}
-use native.Mathlib.Omega.{arith}
-use lib.Dec.{leb, leb·suc-suc}
-use lib.ListN.{length, getD, take, drop, length-append}
-use lib.Seq.{drop-cons}
+use mathlib.Core.{Bool.{Bool, true, false}, List.{List, [], _∷_, _++_}, Logic.{_⊎_, inl, inr, _↔_}}
+use mathlib.Core.Path.{_≡_, refl, sym, ap, ap₂, subst₂, _∙_}
+use Prim.Native.Nat.{ℕ, suc, _+_, _≤_, _<_}
+use native.Mathlib.{Nat.suc-add, Omega.arith}
+use lib.{Dec.{leb, leb·suc-suc}, ListN.{length, getD, take, drop, length-append}, Seq.drop-cons}
 use borrow.Author.Tests.{le-leb, lt-leb, leb-true, leb-false}
-use Rattle.basics.specs.Choice.{ite}
-use Rattle.basics.proofs.Choices.{ite-true, ite-false, ite-case}
+use Rattle.basics.proofs.Choices.{ite-true, ite-false}
+use Rattle.codec.specs.Items.{Format, Item, total, sizeOf, bodyOf, written, numbersAt, itemAt, Proper, Taken.{taken, refused}}
 use Rattle.codec.specs.Numbers.{Bytes}
-use Rattle.codec.specs.Items.{Format, Item, Taken, total, sizeOf, bodyOf, written, numbersAt, itemAt, Fits, Proper}
-use Rattle.codec.specs.Items.Taken.{taken, refused}
-use Rattle.codec.proofs.Numbers.{byte-at}
-use Rattle.codec.proofs.Bodies.{numbersAt-cons, length-body, body-written, body-read, numbersAt-fit}
+use Rattle.codec.proofs.{Bodies.{numbersAt-cons, length-body, body-written, body-read, numbersAt-fit}, Numbers.byte-at}
 
 -- ---- the four cases of a reading, each by what stands at the place
 

@@ -1,15 +1,10 @@
 -- The laws of numbers in bytes, once for every width: what is written is read back, what is read is written as the bytes
 -- read, and a number that was read fits its width.
 -- Assumes nothing.
-use mathlib.Core.Path.{_≡_, refl, sym, ap, ap₂, subst, _∙_}
-use mathlib.Core.List.{List, [], _∷_, _++_}
+use mathlib.Core.{List.{List, [], _∷_, _++_}, Path.{_≡_, refl, sym, ap, ap₂, subst, _∙_}}
 use Prim.Native.Nat.{ℕ, zero, suc, _+_, _*_, _/_, _%_, _^_, _≤_, _<_}
-use native.Mathlib.Nat.{pow-succ', mod-eq-of-lt, mod-lt, add-suc, suc-add}
-use native.Mathlib.Omega.{arith}
-use lib.Arith.{digits-lt, digits-div, digits-mod, mod-mul}
-use lib.Dec.{lit<}
-use lib.ListN.{length, getD, take, drop}
-use lib.Seq.{drop-cons}
+use native.Mathlib.{Nat.{pow-succ', mod-eq-of-lt, mod-lt}, Omega.arith}
+use lib.{Arith.{digits-lt, digits-div, digits-mod, mod-mul}, Dec.lit<, ListN.{length, getD, take, drop}, Seq.drop-cons}
 use Rattle.codec.specs.Numbers.{bytesOf, numberAt, Bytes}
 
 -- 650 is 2·256 + 138: high byte first, written and read

@@ -1,13 +1,9 @@
 -- What the code of four-byte numbers needs: a number past the end, and the four bytes one by one.
 -- Assumes nothing.
-use mathlib.Core.Path.{_≡_, refl, ap₂, _∙_}
-use mathlib.Core.List.{List}
+use mathlib.Core.{List.List, Path.{_≡_, refl, ap₂, _∙_}}
 use Prim.Native.Nat.{ℕ, zero, suc, _+_, _*_, _/_, _%_, _^_, _≤_}
-use native.Mathlib.Nat.{div-one, zero-mul, add-zero}
-use native.Mathlib.Numerals.{towards-suc}
-use native.Mathlib.Omega.{arith}
-use lib.ListN.{length, getD, set, List·getD-eq-default}
-use lib.Seq.{sets}
+use native.Mathlib.{Nat.{div-one, zero-mul, add-zero}, Numerals.towards-suc, Omega.arith}
+use lib.{ListN.{length, getD, set, List·getD-eq-default}, Seq.sets}
 use Rattle.codec.specs.Numbers.{bytesOf, numberAt}
 
 pub numberAt-past : (k : ℕ) (s : List ℕ) (at : ℕ) → length s ≤ at → numberAt k s at ≡ 0

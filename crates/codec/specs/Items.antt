@@ -2,11 +2,8 @@
 -- the kind fixes too. Messages on the wire and schedule records are items, each by a format of its own.
 -- Assumes nothing.
 use Prim.Native.Nat.{ℕ, suc, _+_, _^_, _<_}
-use mathlib.Core.Path.{_≡_}
-use mathlib.Core.Bool.{Bool, true}
-use mathlib.Core.List.{List, [], _∷_, _++_}
-use lib.ListN.{length, getD}
-use lib.Dec.{leb}
+use mathlib.Core.{Bool.{Bool, true}, List.{List, [], _∷_, _++_}, Path._≡_}
+use lib.{Dec.leb, ListN.{length, getD}}
 use Rattle.basics.specs.Choice.{ite}
 use Rattle.codec.specs.Numbers.{bytesOf, numberAt}
 

@@ -1,7 +1,6 @@
 -- Each contract of this crate allows one outcome.
 -- Assumes nothing.
-use mathlib.Core.Path.{refl, sym, ap, _∙_}
-use mathlib.Core.List.{List}
+use mathlib.Core.{List.List, Path.{refl, sym, ap, _∙_}}
 use Prim.Native.Nat.{ℕ}
 use denote.Ref.{now}
 use Rattle.basics.specs.Outcome.{OneResult, OneOutcome}

@@ -1,20 +1,13 @@
 -- What a call of a panel reports, out of what its parts do; one law for every call.
 -- Assumes nothing.
-use mathlib.Core.Path.{_≡_, refl, ap, ap₂, _∙_}
-use mathlib.Core.List.{List, _++_}
+use mathlib.Core.{List.{List, _++_}, Path.{_≡_, refl, ap, ap₂, _∙_}}
 use Prim.Native.Nat.{ℕ}
 use lib.Seq.{sets}
 use Rattle.messages.specs.Area.{Area}
 use Rattle.form.specs.declared.Tables.{Tables}
-use Rattle.panel.specs.declared.Panel.{Panel}
-use Rattle.panel.specs.declared.Outcome.{Outcome}
-use Rattle.panel.specs.declared.Made.{Made}
+use Rattle.panel.specs.{Calls.{Called, called}, declared.Made.Made, declared.Outcome.Outcome, declared.Panel.Panel}
 use Rattle.refusals.specs.Refusals.{Event}
-use Rattle.panel.specs.Calls.{Called, called}
-use Rattle.carried.specs.Laid.{Laid}
-use Rattle.carried.specs.Panels.{panelBytes}
-use Rattle.carried.proofs.Rows.{laid-then}
-use Rattle.carried.proofs.Lengths.{length-panel}
+use Rattle.carried.{proofs.Lengths.length-panel, proofs.Rows.laid-then, specs.Laid.Laid, specs.Panels.panelBytes}
 use Rattle.compared.specs.Reported.{outcomeBytes, Reported, reported}
 
 pub reporting :

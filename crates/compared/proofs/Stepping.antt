@@ -1,21 +1,13 @@
 -- What a call of a network leaves, out of what its parts do; one law for every step.
 -- Assumes nothing.
-use mathlib.Core.Path.{_≡_, refl, ap, _∙_}
-use mathlib.Core.List.{List, _++_}
+use mathlib.Core.{List.{List, _++_}, Path.{_≡_, refl, ap, _∙_}}
 use Prim.Native.Nat.{ℕ}
-use lib.ListN.{set}
-use lib.Seq.{sets}
+use lib.{ListN.set, Seq.sets}
 use Rattle.house.specs.declared.Network.{Network}
+use Rattle.steps.specs.{Drain.drained, Search.sought, declared.Drained.Drained, declared.Ready.Ready, declared.Sought.Sought}
 use Rattle.steps.specs.declared.Stepped.{Stepped}
-use Rattle.steps.specs.declared.Sought.{Sought}
-use Rattle.steps.specs.declared.Ready.{Ready}
-use Rattle.steps.specs.declared.Drained.{Drained}
-use Rattle.steps.specs.Search.{sought}
-use Rattle.steps.specs.Drain.{drained}
-use Rattle.carried.specs.Laid.{Laid}
-use Rattle.carried.proofs.Rows.{laid-byte, laid-then}
-use Rattle.conveyed.specs.Networks.{networkBytes}
-use Rattle.conveyed.proofs.Lengths.{length-network}
+use Rattle.carried.{proofs.Rows.{laid-byte, laid-then}, specs.Laid.Laid}
+use Rattle.conveyed.{proofs.Lengths.length-network, specs.Networks.networkBytes}
 use Rattle.compared.specs.Stepping.{steppedBytes, drainedBytes, foundBytes, soughtBytes}
 
 -- a network's bytes, and others right behind them

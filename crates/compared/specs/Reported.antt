@@ -6,10 +6,8 @@ use mathlib.Core.List.{List, _∷_, _++_}
 use lib.Seq.{sets}
 use Rattle.codec.specs.Numbers.{bytesOf}
 use Rattle.messages.specs.Area.{Area}
-use Rattle.events.specs.declared.Answer.{Answer}
-use Rattle.events.specs.declared.Answer.the-variants.{Refused, Nothing, Wrote, Gave}
-use Rattle.panel.specs.declared.Outcome.{Outcome}
-use Rattle.panel.specs.Calls.{Called}
+use Rattle.events.specs.declared.Answer.{Answer, the-variants.{Refused, Nothing, Wrote, Gave}}
+use Rattle.panel.specs.{Calls.Called, declared.Outcome.Outcome}
 use Rattle.carried.specs.Panels.{panelBytes}
 
 -- 0 refused, 1 nothing, 2 the number of a finished write, 3 the number and the value read

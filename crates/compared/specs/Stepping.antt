@@ -4,9 +4,7 @@ use Prim.Native.Nat.{ℕ}
 use mathlib.Core.List.{List, [], _∷_, _++_}
 use Rattle.basics.specs.Below.{oneIf}
 use Rattle.house.specs.declared.Found.{Found}
-use Rattle.steps.specs.declared.Stepped.{Stepped}
-use Rattle.steps.specs.declared.Sought.{Sought}
-use Rattle.steps.specs.declared.Drained.{Drained}
+use Rattle.steps.specs.declared.{Drained.Drained, Sought.Sought, Stepped.Stepped}
 use Rattle.conveyed.specs.Networks.{networkBytes}
 use Rattle.compared.specs.Reported.{answerBytes}
 

@@ -1,9 +1,8 @@
 -- Answers as bare numbers, for a caller in another language: 0 where a call is not refused, else the refusal's number.
 -- Assumes nothing.
 use Prim.Native.Nat.{ℕ}
-use Rattle.wire.specs.declared.Taken.{Taken}
+use Rattle.wire.specs.declared.{Put.Put, Taken.Taken}
 use Rattle.wire.specs.declared.Taken.the-variants as Read
-use Rattle.wire.specs.declared.Put.{Put}
 use Rattle.wire.specs.declared.Put.the-variants as Wrote
 
 abbrev pub readRefusal : Taken → ℕ

@@ -1,20 +1,13 @@
 -- How many bytes the parts of a network take, and the whole: 11,557.
 -- Assumes nothing.
-use mathlib.Core.Path.{_≡_, refl}
-use mathlib.Core.Bool.{Bool, false}
-use mathlib.Core.List.{List, [], _∷_}
+use mathlib.Core.{Bool.{Bool, false}, List.{List, [], _∷_}, Path.{_≡_, refl}}
 use Prim.Native.Nat.{ℕ}
 use lib.ListN.{length, length-append, getD}
 use Rattle.basics.specs.Below.{oneIf}
 use Rattle.panel.specs.declared.Panel.{Panel}
-use Rattle.channels.specs.declared.Channel.{Channel}
-use Rattle.channels.specs.declared.Row.{Row}
-use Rattle.channels.specs.Channels.{noRow, channelAt}
-use Rattle.house.specs.declared.Network.{Network}
-use Rattle.house.specs.Places.{nobody}
-use Rattle.carried.specs.Panels.{panelBytes}
-use Rattle.carried.proofs.Rows.{length-rows}
-use Rattle.carried.proofs.Lengths.{length-hold, length-panel}
+use Rattle.channels.specs.{Channels.{noRow, channelAt}, declared.Channel.Channel, declared.Row.Row}
+use Rattle.house.specs.{Places.nobody, declared.Network.Network}
+use Rattle.carried.{proofs.Lengths.{length-hold, length-panel}, proofs.Rows.length-rows, specs.Panels.panelBytes}
 use Rattle.conveyed.specs.Networks.{membersBytes, downBytes, channelBytes, rowBytes, rowsBytes, networkBytes}
 
 pub length-members : (ps : List Panel) → length (membersBytes ps) ≡ 10962

@@ -1,12 +1,9 @@
 -- A part of lent bytes, from a place on to the end: what it holds, and what a write into it is in the whole.
 -- Assumes nothing.
-use mathlib.Core.Path.{_≡_, refl, sym, ap, ap₂, _∙_}
-use mathlib.Core.List.{List, [], _∷_, _++_, append-nil}
+use mathlib.Core.{List.{List, [], _∷_, _++_, append-nil}, Path.{_≡_, refl, sym, ap, ap₂, _∙_}}
 use Prim.Native.Nat.{ℕ, zero, suc, _-_, _≤_, min}
-use native.Mathlib.Nat.{zero-min, min-zero, suc-min-suc}
-use native.Mathlib.Omega.{arith}
-use lib.ListN.{length, take, drop, set, length-drop, drop-of-length-le}
-use lib.Seq.{sets}
+use native.Mathlib.{Nat.{zero-min, min-zero, suc-min-suc}, Omega.arith}
+use lib.{ListN.{length, take, drop, set, length-drop, drop-of-length-le}, Seq.sets}
 use Rattle.basics.proofs.Lists.{sets-past, part-behind}
 use Rattle.carried.specs.Laid.{Laid}
 

@@ -3,18 +3,12 @@
 -- Any bytes stand for a network: a byte past the end counts as 0, and a flag other than 0 is true.
 -- Assumes nothing.
 use Prim.Native.Nat.{ℕ, _+_, _*_}
-use mathlib.Core.Bool.{Bool, false, not}
-use mathlib.Core.List.{List, [], _∷_, _++_}
-use lib.Dec.{eqb}
-use lib.ListN.{getD, drop}
+use mathlib.Core.{Bool.{Bool, false, not}, List.{List, [], _∷_, _++_}}
+use lib.{Dec.eqb, ListN.{getD, drop}}
 use Rattle.basics.specs.Below.{oneIf, listBelow}
-use Rattle.panel.specs.declared.Panel.{Panel}
-use Rattle.panel.specs.Calls.{panelOf}
-use Rattle.channels.specs.declared.Channel.{Channel}
-use Rattle.channels.specs.declared.Row.{Row}
-use Rattle.channels.specs.Channels.{noRow, channelAt}
-use Rattle.house.specs.declared.Network.{Network}
-use Rattle.house.specs.Places.{nobody}
+use Rattle.panel.specs.{Calls.panelOf, declared.Panel.Panel}
+use Rattle.channels.specs.{Channels.{noRow, channelAt}, declared.Channel.Channel, declared.Row.Row}
+use Rattle.house.specs.{Places.nobody, declared.Network.Network}
 use Rattle.carried.specs.Panels.{holdFrom, panelFrom, rowsBelow, holdBytes, panelBytes}
 
 -- ---- a network out of bytes

@@ -2,35 +2,21 @@
 -- behind the last are as they were (`place-kept`), a refusal changes nothing (`refused-unchanged`), and an area of less than 107
 -- places is refused 3 by tables in form (`short-refused`). The columns settle the slice (`columns-injective`).
 -- Assumes nothing.
-use mathlib.Core.Path.{_≡_, refl, sym, ap, _∙_}
-use mathlib.Core.Bool.{true}
-use mathlib.Core.Logic.{inr, _≢_}
-use mathlib.Core.List.{List, [], map}
+use mathlib.Core.{Bool.true, List.{List, [], map}, Logic.{inr, _≢_}, Path.{_≡_, refl, sym, ap, _∙_}}
 use Prim.Native.Nat.{ℕ, _≤_, _<_}
-use native.Mathlib.Nat.{zero-add}
-use native.Mathlib.Omega.{arith}
-use lib.ListN.{length, getD, length-map, List·getD-map}
-use lib.Seq.{ext-getD}
+use native.Mathlib.{Nat.zero-add, Omega.arith}
+use lib.{ListN.{length, getD, length-map, List·getD-map}, Seq.ext-getD}
 use borrow.Author.Tests.{ne-eqb}
-use Rattle.basics.proofs.Choices.{ite-false}
-use Rattle.basics.proofs.Refusals.{first-stops}
-use Rattle.messages.specs.Sends.{Message as Sent, messagesOf}
-use Rattle.messages.specs.Area.{Area, laid, laidIn}
-use Rattle.messages.proofs.Laying.{length-laid, laid-message, laid-past}
-use Rattle.messages.proofs.Messages.{messages-of-none}
-use Rattle.form.specs.Form.{inForm}
-use Rattle.form.specs.declared.Tables.{Tables}
+use Rattle.basics.proofs.{Choices.ite-false, Refusals.first-stops}
+use Rattle.messages.proofs.{Laying.{length-laid, laid-message, laid-past}, Messages.messages-of-none}
+use Rattle.messages.specs.{Area.{Area, laid, laidIn}, Sends.{Message as Sent, messagesOf}}
+use Rattle.form.specs.{Form.inForm, declared.Tables.Tables}
+use Rattle.refusals.proofs.Refusing.{first-3, write-first, read-first, peer-first}
 use Rattle.refusals.specs.Refusals.{Event, peerTrials, writeFromTrials, readFromTrials, proceedFromTrials, trials, refusal}
 use Rattle.refusals.specs.Refusals.Event.{write, read, writeFrom, readFrom, proceedFrom}
-use Rattle.refusals.proofs.Refusing.{first-3, write-first, read-first, peer-first}
-use Rattle.events.specs.declared.Answer.the-variants.{Refused}
-use Rattle.events.specs.declared.Done.{Done}
-use Rattle.events.specs.Events.{refusedBy, happens}
-use Rattle.panel.specs.declared.Panel.{Panel}
-use Rattle.panel.specs.declared.Outcome.{Outcome}
-use Rattle.panel.specs.Calls.{Called, told, called}
-use Rattle.edges.specs.declared.Message.{Message}
-use Rattle.edges.specs.Columns.{columns}
+use Rattle.events.specs.{Events.{refusedBy, happens}, declared.Answer.the-variants.Refused, declared.Done.Done}
+use Rattle.panel.specs.{Calls.{Called, told, called}, declared.Outcome.Outcome, declared.Panel.Panel}
+use Rattle.edges.specs.{Columns.columns, declared.Message.Message}
 use Rattle.edges.proofs.Pouring.{room-is}
 
 -- ---- a slice and its columns

@@ -1,31 +1,20 @@
 -- What is poured into a slice of message structs is, column by column, what the panel's own call lays into three slices
 -- (`parcel-called`), which is what the events of this crate go by.
 -- Assumes nothing.
-use mathlib.Core.Path.{_≡_, refl, sym, ap, subst, _∙_}
-use mathlib.Core.Bool.{Bool, true, false}
-use mathlib.Core.Logic.{inr}
-use mathlib.Core.List.{List, [], _∷_, map}
+use mathlib.Core.{Bool.{Bool, true, false}, List.{List, [], _∷_, map}, Logic.inr, Path.{_≡_, refl, sym, ap, subst, _∙_}}
 use Prim.Native.Nat.{ℕ, zero, suc, min, _≤_, _<_}
-use native.Mathlib.Nat.{zero-add}
-use native.Mathlib.Omega.{arith}
-use lib.Dec.{ltb}
-use lib.ListN.{length, getD, set, replicate, length-set, length-map, length-replicate}
+use native.Mathlib.{Nat.zero-add, Omega.arith}
+use lib.{Dec.ltb, ListN.{length, getD, set, replicate, length-set, length-map, length-replicate}}
 use lib.Seq.{ext-getD, getD-set-same, getD-set-other}
 use borrow.Author.Tests.{ltb-true, ltb-false}
-use Rattle.messages.specs.declared.Sends.{Sends}
-use Rattle.messages.specs.Sends.{Message as Sends·Message, messagesOf}
+use Rattle.messages.proofs.{Laying.{length-laid, laid-at, laid-past}, Messages.messages-most}
 use Rattle.messages.specs.Area.{Area, Laid, receiversOf, kindsOf, valuesOf, laid, laidIn, laying, roomOf}
-use Rattle.messages.proofs.Laying.{length-laid, laid-at, laid-past}
-use Rattle.messages.proofs.Messages.{messages-most}
+use Rattle.messages.specs.{Sends.{Message as Sends·Message, messagesOf}, declared.Sends.Sends}
 use Rattle.refusals.specs.Refusals.{Event}
-use Rattle.events.specs.declared.Done.{Done}
-use Rattle.events.specs.Events.{happens}
-use Rattle.panel.specs.declared.Panel.{Panel}
-use Rattle.panel.specs.Calls.{told, called}
-use Rattle.edges.specs.declared.Message.{Message}
-use Rattle.edges.specs.declared.Columns.{Columns}
-use Rattle.edges.specs.declared.Parcel.{Parcel}
-use Rattle.edges.specs.Columns.{columns, blank, columnsOf, messageAt, poured, parcelOf, Fitting}
+use Rattle.events.specs.{Events.happens, declared.Done.Done}
+use Rattle.panel.specs.{Calls.{told, called}, declared.Panel.Panel}
+use Rattle.edges.specs.{Columns.{columns, blank, columnsOf, messageAt, poured, parcelOf, Fitting}, declared.Columns.Columns}
+use Rattle.edges.specs.declared.{Message.Message, Parcel.Parcel}
 
 -- ---- one column
 

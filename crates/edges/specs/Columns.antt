@@ -2,17 +2,12 @@
 -- columns what the panel's own call (panel's Calls, `called`) leaves in the slices, so there is no second set of rules.
 -- Assumes nothing.
 use Prim.Native.Nat.{ℕ, zero, suc, min, _≤_}
-use mathlib.Core.Path.{_≡_}
-use mathlib.Core.List.{List, map}
+use mathlib.Core.{List.{List, map}, Path._≡_}
 use lib.ListN.{length, getD, set, replicate}
-use Rattle.messages.specs.declared.Sends.{Sends}
-use Rattle.messages.specs.Sends.{messagesOf}
-use Rattle.messages.specs.Area.{Area, laidIn}
+use Rattle.messages.specs.{Area.{Area, laidIn}, Sends.messagesOf, declared.Sends.Sends}
 use Rattle.events.specs.declared.Done.{Done}
 use Rattle.panel.specs.Calls.{told}
-use Rattle.edges.specs.declared.Message.{Message}
-use Rattle.edges.specs.declared.Columns.{Columns}
-use Rattle.edges.specs.declared.Parcel.{Parcel}
+use Rattle.edges.specs.declared.{Columns.Columns, Message.Message, Parcel.Parcel}
 
 unfoldable pub columns : List Message → Area
 columns ms = record { receivers = map (λ (m : Message). m .to) ms; kinds = map (λ (m : Message). m .kind) ms; values = map (λ (m : Message). m .value) ms }

@@ -2,27 +2,17 @@
 -- 0 and a refusal's number, 1 for nothing, 2 and the number written, or 3, the number and the value read; behind it stand each
 -- message's receiver, kind and value.
 -- Assumes nothing.
-use Prim.Native.Nat.{ℕ, zero, suc, _+_}
-use mathlib.Core.Path.{_≡_, refl}
-use mathlib.Core.Bool.{Bool, true, false, not}
-use mathlib.Core.List.{List, [], _∷_, _++_}
-use Rattle.basics.specs.Choice.{ite, both}
-use Rattle.basics.specs.Below.{oneIf, allBelow, countBelow, listBelow}
-use Rattle.basics.specs.Refusal.{Trial, firstOf}
+use Prim.Native.Nat.{ℕ}
+use mathlib.Core.{Bool.{true, false}, List.{List, [], _∷_, _++_}, Path.{_≡_, refl}}
+use Rattle.basics.specs.{Below.{oneIf, allBelow, countBelow, listBelow}, Choice.{ite, both}, Refusal.firstOf}
 use Rattle.messages.specs.Sends.{Message, castBelow, castOf, proceedsTo, messagesOf, noCast, noSends}
-use Rattle.tables.specs.Places.{wAt, lineAt}
-use Rattle.tables.specs.Marks.{hasW, reachesW, hasR, among, marks, enough, isOther, onlyPlace}
-use Rattle.tables.specs.Form.{entryOk, lineOk, holdOk, quietOk, unknownOk, historyOk}
-use Rattle.tables.specs.Lines.{joined, leading, leaving, without}
-use Rattle.events.specs.declared.Answer.{Answer}
-use Rattle.events.specs.declared.Answer.the-variants.{Refused, Nothing, Wrote, Gave}
-use Rattle.form.specs.declared.Tables.{Tables}
-use Rattle.events.specs.declared.Done.{Done}
-use Rattle.form.specs.Form.{fits, isPanel, atWriter, placeWith, placeOk, operationOk, inForm, emptyLine, fresh}
+use Rattle.tables.specs.{Form.{entryOk, lineOk, holdOk, quietOk, unknownOk, historyOk}, Lines.{joined, leading, leaving, without}}
+use Rattle.tables.specs.{Marks.{hasW, reachesW, hasR, among, marks, enough, isOther, onlyPlace}, Places.{wAt, lineAt}}
+use Rattle.events.specs.{Events.{rule, refusedBy, lookedAt, happens}, Look.{lookWriting, lookSecond, lookFirst, lookAs, look}}
 use Rattle.events.specs.Rules.{valueOf, learned, spread, writeRule, readRule, reached, take, takeHeld, released, takeRule, holdRule, readFromRule, proceedRule}
-use Rattle.events.specs.Look.{lookWriting, lookSecond, lookFirst, lookAs, look}
+use Rattle.events.specs.declared.{Answer.Answer, Answer.the-variants.{Refused, Nothing, Wrote, Gave}, Done.Done}
+use Rattle.form.specs.{Form.{fits, isPanel, atWriter, placeWith, placeOk, operationOk, inForm, emptyLine, fresh}, declared.Tables.Tables}
 use Rattle.refusals.specs.Refusals.{Event, isPeer, isIdle, rightBit, tooHigh, stray, lineFull, firstTrials, peerTrials, writeTrials, readTrials, writeFromTrials, readFromTrials, proceedFromTrials, trials, refusal}
-use Rattle.events.specs.Events.{rule, refusedBy, lookedAt, happens}
 use Rattle.refusals.specs.Refusals.Event.{write, read, writeFrom, readFrom, proceedFrom}
 
 answered : Answer → List ℕ
@@ -82,6 +72,15 @@ values =
     ∷ after 3 1 1 2 (read ∷ proceedFrom 1 ∷ read ∷ []) (proceedFrom 3)
     -- a lagging peer gets its next value and not the newest
     ∷ after 3 1 1 1 (write 10 ∷ writeFrom 3 true 10 ∷ write 20 ∷ writeFrom 3 false 20 ∷ write 30 ∷ []) (writeFrom 2 true 10)
+    -- "The writer reads like any other panel": it waits, and its READs carry no value
+    ∷ after 3 1 1 1 [] read
+    -- a read before any write gives number 0 and the initial value
+    ∷ after 3 1 1 2 (read ∷ []) (proceedFrom 1)
+    -- 7: a read while writing, a write while reading
+    ∷ after 3 1 1 1 (write 650 ∷ []) read
+    ∷ after 3 1 1 1 (read ∷ []) (write 650)
+    -- the held WRITE is treated before READs leave
+    ∷ after 3 1 1 2 (writeFrom 1 true 10 ∷ writeFrom 1 false 20 ∷ readFrom 3 ∷ writeFrom 3 false 20 ∷ []) (writeFrom 3 true 10)
     ∷ []
 
 shown :
@@ -102,6 +101,11 @@ shown :
     ∷ (3 ∷ 1 ∷ 650 ∷ 3 ∷ 0 ∷ 700 ∷ [])
     ∷ (1 ∷ [])
     ∷ (1 ∷ 2 ∷ 0 ∷ 20 ∷ [])
+    ∷ (1 ∷ 2 ∷ 2 ∷ 0 ∷ 3 ∷ 2 ∷ 0 ∷ [])
+    ∷ (3 ∷ 0 ∷ 700 ∷ [])
+    ∷ (0 ∷ 7 ∷ [])
+    ∷ (0 ∷ 7 ∷ [])
+    ∷ (1 ∷ 3 ∷ 0 ∷ 20 ∷ 3 ∷ 3 ∷ 0 ∷ [])
     ∷ []
 unfolding values
 shown = refl

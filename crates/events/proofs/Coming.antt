@@ -1,24 +1,15 @@
 -- What the code of a WRITE from a peer relies on; m is the peer's number as the code holds it.
 -- Assumes nothing.
-use mathlib.Core.Path.{_≡_, sym, ap, subst, _∙_}
-use mathlib.Core.Bool.{Bool, true, false}
-use Prim.Native.Nat.{ℕ, _+_, _-_, _≤_, _<_}
+use mathlib.Core.{Bool.{Bool, true, false}, Path.{_≡_, sym, ap, _∙_}}
+use Prim.Native.Nat.{ℕ, _+_, _-_, _≤_}
 use native.Mathlib.Omega.{arith}
 use lib.ListN.{length}
 use Rattle.basics.proofs.Choices.{ite-true, ite-false}
 use Rattle.tables.specs.Places.{wAt}
-use Rattle.form.specs.declared.Tables.{Tables}
-use Rattle.events.specs.declared.Ruled.{Ruled}
-use Rattle.form.specs.Setting.{ownW}
-use Rattle.events.specs.Rules.{takeRule, holdRule}
-use Rattle.refusals.specs.Refusals.{rightBit, stray, writeFromTrials}
-use Rattle.events.specs.Events.{rule}
-use Rattle.refusals.specs.Refusals.Event.{writeFrom}
-use Rattle.events.specs.Asked.{TakesAll, Looks}
-use Rattle.form.proofs.InForm.{sized}
-use Rattle.refusals.proofs.Passing.{MayCome, low-right}
-use Rattle.events.proofs.Running.{looks-take}
-use Rattle.events.proofs.Happening.{Comes, comes}
+use Rattle.form.{proofs.InForm.sized, specs.declared.Tables.Tables}
+use Rattle.events.specs.{Asked.{TakesAll, Looks}, Events.rule, Rules.{takeRule, holdRule}}
+use Rattle.refusals.{proofs.Passing.{MayCome, low-right}, specs.Refusals.{rightBit, stray}, specs.Refusals.Event.writeFrom}
+use Rattle.events.proofs.{Happening.{Comes, comes}, Running.looks-take}
 
 module _ (p : Tables) (room j m : ℕ) (b : Bool) (peer : m ≡ j) (c : MayCome p room j) (s : stray p (j - 1) b ≡ false) where
   pub takes-all : rightBit p (m - 1) b ≡ true → TakesAll p (m - 1)

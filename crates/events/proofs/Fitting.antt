@@ -1,44 +1,24 @@
 -- An event never sends more than the area holds: at most 107 messages.
 -- Assumes nothing.
-use mathlib.Core.Path.{_≡_, refl, sym, ap, ap₂, subst, _∙_}
-use mathlib.Core.Bool.{Bool, true, false}
-use mathlib.Core.List.{List}
-use mathlib.Core.Logic.{_≢_}
+use mathlib.Core.{Bool.{Bool, true, false}, List.List, Logic._≢_, Path.{_≡_, refl, sym, ap, ap₂, subst, _∙_}}
 use Prim.Native.Nat.{ℕ, zero, suc, _+_, _-_, _%_, _≤_, _<_}
-use native.Mathlib.Decide.{ℕ-discrete}
-use native.Mathlib.Omega.{arith}
-use lib.Dec.{eqb}
-use lib.ListN.{length, getD, set}
+use native.Mathlib.{Decide.ℕ-discrete, Omega.arith}
+use lib.{Dec.eqb, ListN.{length, getD, set}}
 use borrow.Author.Tests.{eqb-true, ltb-true}
+use Rattle.basics.proofs.{Below.count-alike, Choices.ite-case, Ones.{one, nought, nought-apart}}
 use Rattle.basics.specs.Below.{oneIf, countBelow}
-use Rattle.basics.proofs.Choices.{ite-case}
-use Rattle.basics.proofs.Below.{count-alike}
-use Rattle.basics.proofs.Ones.{one, nought, nought-apart}
-use Rattle.messages.specs.declared.Cast.{Cast}
-use Rattle.messages.specs.declared.Sends.{Sends}
-use Rattle.messages.specs.Sends.{Message, castOf, messagesOf, noCast}
 use Rattle.messages.proofs.Messages.{length-messages, messages-most, cast-most, length-cast, cast-of-none}
-use Rattle.tables.specs.declared.Line.{Line}
-use Rattle.tables.specs.Places.{wAt, holdAt, lineAt, noHold}
-use Rattle.tables.specs.Marks.{onlyPlace}
-use Rattle.tables.specs.Lines.{leaving}
-use Rattle.tables.proofs.Form.{level-empty}
-use Rattle.tables.proofs.Marks.{only-at}
-use Rattle.tables.proofs.Lines.{leaving-most}
+use Rattle.messages.specs.{Sends.{Message, castOf, messagesOf, noCast}, declared.Cast.Cast, declared.Sends.Sends}
+use Rattle.tables.{proofs.Form.level-empty, proofs.Lines.leaving-most, proofs.Marks.only-at, specs.Lines.leaving, specs.Marks.onlyPlace}
+use Rattle.tables.specs.{Places.{wAt, holdAt, lineAt, noHold}, declared.Line.Line}
+use Rattle.form.{proofs.InForm.InForm, proofs.Stores.{w-set, w-set-ne}, specs.Setting.{ownPlace, ownW, setHeld}}
 use Rattle.form.specs.declared.Tables.{Tables}
-use Rattle.form.specs.Setting.{ownPlace, ownW, setHeld}
-use Rattle.form.proofs.Stores.{w-set, w-set-ne}
-use Rattle.form.proofs.InForm.{InForm}
-use Rattle.events.specs.declared.Took.{Took}
-use Rattle.events.specs.declared.Ruled.{Ruled}
-use Rattle.refusals.specs.Refusals.{Event, trials, refusal}
-use Rattle.refusals.specs.Refusals.Event.{write, read, writeFrom, readFrom, proceedFrom}
-use Rattle.refusals.proofs.Passing.{may-write-from}
 use Rattle.events.specs.Events.{rule}
 use Rattle.events.specs.Rules.{valueOf, reached, take, takeHeld, takeRule, writeRule, readRule, readFromRule, proceedRule, holdRule}
-use Rattle.events.proofs.KeptPeers.{PeerPlace}
-use Rattle.events.proofs.Kept.{Good, peer-place}
-use Rattle.events.proofs.Running.{take-keeps, held-keeps}
+use Rattle.events.specs.declared.{Ruled.Ruled, Took.Took}
+use Rattle.refusals.{proofs.Passing.may-write-from, specs.Refusals.{Event, trials, refusal}}
+use Rattle.refusals.specs.Refusals.Event.{write, read, writeFrom, readFrom, proceedFrom}
+use Rattle.events.proofs.{Kept.{Good, peer-place}, KeptPeers.PeerPlace, Running.{take-keeps, held-keeps}}
 
 -- ---- a cast to one place
 

@@ -1,31 +1,18 @@
 -- The two ways out of an event, for its code: refused, or its rule and then the look at the operation.
 -- Assumes nothing.
-use mathlib.Core.Path.{_≡_, sym, ap, subst, _∙_}
-use mathlib.Core.Bool.{true, false}
-use mathlib.Core.Logic.{_≢_}
+use mathlib.Core.{Bool.{true, false}, Logic._≢_, Path.{_≡_, sym, ap, subst, _∙_}}
 use Prim.Native.Nat.{ℕ, _+_, _-_, _%_, _≤_, _<_}
 use native.Mathlib.Omega.{arith}
-use lib.Dec.{ltb}
-use lib.ListN.{getD, set}
+use lib.{Dec.ltb, ListN.{getD, set}}
 use borrow.Author.Tests.{eq-eqb, ne-eqb, le-leb, lt-leb, lt-ltb, le-ltb}
-use Rattle.basics.specs.Choice.{ite}
-use Rattle.basics.proofs.Choices.{ite-true, ite-false}
+use Rattle.basics.{proofs.Choices.{ite-true, ite-false}, specs.Choice.ite}
 use Rattle.messages.specs.Sends.{noCast}
-use Rattle.tables.specs.declared.Line.{Line}
-use Rattle.tables.specs.Places.{wAt, rAt, holdAt, lineAt, noWrite, noHold}
-use Rattle.tables.specs.Marks.{onlyPlace}
-use Rattle.tables.specs.Lines.{joined}
+use Rattle.tables.specs.{Lines.joined, Marks.onlyPlace, Places.{wAt, rAt, holdAt, lineAt, noWrite, noHold}, declared.Line.Line}
+use Rattle.form.{proofs.InForm.{InForm, PlaceOf, form-view}, specs.Asked.Sized, specs.Setting.{ownPlace, ownW, ownR, setHeld, setLines}}
 use Rattle.form.specs.declared.Tables.{Tables}
-use Rattle.events.specs.declared.Ruled.{Ruled}
-use Rattle.events.specs.declared.Done.{Done}
-use Rattle.form.specs.Setting.{ownPlace, ownW, ownR, setHeld, setLines}
-use Rattle.events.specs.Rules.{learned, spread, reached, take, takeHeld, valueOf, readFromRule, sendsProceeds}
-use Rattle.form.specs.Asked.{Sized}
-use Rattle.events.specs.Asked.{Takes}
-use Rattle.form.proofs.InForm.{InForm, PlaceOf, form-view}
-use Rattle.refusals.proofs.Passing.{MayCome}
-use Rattle.refusals.specs.Refusals.{Event, refusal}
-use Rattle.events.specs.Events.{rule, refusedBy, lookedAt, happens}
+use Rattle.events.specs.{Asked.Takes, Events.{rule, refusedBy, lookedAt, happens}}
+use Rattle.events.specs.{Rules.{learned, spread, reached, take, takeHeld, valueOf, readFromRule, sendsProceeds}, declared.Ruled.Ruled}
+use Rattle.refusals.{proofs.Passing.MayCome, specs.Refusals.{Event, refusal}}
 
 module _ (p : Tables) (room : ℕ) (e : Event) where
   pub happens-refused : (k : ℕ) → k ≡ refusal p room e → k ≢ 0 → refusedBy p k ≡ happens p room e

@@ -1,37 +1,19 @@
 -- "Every accepted step keeps this": an event that no refusal meets hands on a panel in form, and so does one that is refused.
 -- Assumes nothing.
-use mathlib.Core.Path.{_≡_, refl, sym, ap, subst, _∙_}
-use mathlib.Core.Bool.{Bool, true, false}
-use mathlib.Core.Logic.{_≢_}
-use Prim.Native.Nat.{ℕ, _+_, _-_, _≤_, _<_}
+use mathlib.Core.{Bool.{Bool, true, false}, Logic._≢_, Path.{_≡_, refl}}
+use Prim.Native.Nat.{ℕ, _-_, _≤_}
 use native.Mathlib.Omega.{arith}
-use lib.Dec.{leb, ltb, eqb}
-use borrow.Author.Tests.{le-leb, leb-true, ltb-false, eqb-true}
-use Rattle.basics.specs.Choice.{ite, both}
-use Rattle.basics.specs.Refusal.{firstOf}
-use Rattle.basics.proofs.Choices.{clash, ite-true, ite-false, ite-case, both-true, both-left}
+use lib.Dec.{eqb}
+use borrow.Author.Tests.{le-leb, leb-true, eqb-true}
+use Rattle.basics.{proofs.Choices.{clash, ite-case, both-true}, specs.Choice.ite}
 use Rattle.tables.specs.declared.WriteNo.{WriteNo}
-use Rattle.tables.specs.Places.{wAt, holdAt}
-use Rattle.tables.specs.Marks.{hasW, reachesW, hasR, enough}
-use Rattle.tables.proofs.Form.{HoldForm}
-use Rattle.form.specs.declared.Operation.{Operation}
-use Rattle.form.specs.declared.Operation.the-variants.{Idle, Writing, FirstWait, SecondWait}
-use Rattle.form.specs.declared.Tables.{Tables}
-use Rattle.events.specs.declared.Looked.{Looked}
-use Rattle.events.specs.declared.Ruled.{Ruled}
-use Rattle.events.specs.declared.Done.{Done}
-use Rattle.form.specs.Setting.{ownPlace, ownW, ownR, setOperation}
-use Rattle.form.specs.Form.{inForm, atWriter, operationOk}
-use Rattle.events.specs.Rules.{holdRule, takeRule}
-use Rattle.events.specs.Look.{lookWriting, lookSecond, lookFirst, lookAs, look}
-use Rattle.refusals.specs.Refusals.{Event, rightBit, tooHigh, stray, trials, refusal}
-use Rattle.events.specs.Events.{rule, refusedBy, lookedAt, happens}
-use Rattle.refusals.specs.Refusals.Event.{write, read, writeFrom, readFrom, proceedFrom}
-use Rattle.refusals.proofs.Passing.{MayWrite, may-write, MayRead, may-read, MayCome, may-write-from, may-read-from, may-proceed-from, low-right, low-held}
-use Rattle.form.proofs.InForm.{InForm, form-view, form-of}
-use Rattle.form.proofs.Shape.{Shaped}
-use Rattle.events.proofs.KeptStarts.{own-place, kept-write, kept-read}
-use Rattle.events.proofs.KeptPeers.{PeerPlace, kept-proceed, kept-read-from, kept-held}
+use Rattle.form.{proofs.InForm.InForm, proofs.Shape.Shaped, specs.Form.{atWriter, operationOk}, specs.Setting.{ownW, ownR, setOperation}}
+use Rattle.form.specs.declared.{Operation.Operation, Operation.the-variants.{Idle, Writing, FirstWait, SecondWait}, Tables.Tables}
+use Rattle.events.specs.{Events.{rule, refusedBy, lookedAt, happens}, Look.{lookWriting, lookSecond, lookFirst, lookAs, look}}
+use Rattle.events.specs.{Rules.{holdRule, takeRule}, declared.Done.Done, declared.Looked.Looked, declared.Ruled.Ruled}
+use Rattle.refusals.proofs.Passing.{MayWrite, may-write, may-read, MayCome, may-write-from, may-read-from, may-proceed-from, low-right, low-held}
+use Rattle.refusals.specs.Refusals.{Event, rightBit, stray, trials, refusal, Event.{write, read, writeFrom, readFrom, proceedFrom}}
+use Rattle.events.proofs.{KeptPeers.{PeerPlace, kept-proceed, kept-read-from, kept-held}, KeptStarts.{kept-write, kept-read}}
 use Rattle.events.proofs.KeptTake.{kept-take}
 
 -- in form, with the lengths that the code's arrays have

@@ -1,38 +1,19 @@
 -- A READ, a PROCEED, and a WRITE that is only held keep the panel in form.
 -- Assumes nothing.
-use mathlib.Core.Path.{_≡_, refl, sym, ap, subst, subst₂, _∙_}
-use mathlib.Core.Bool.{Bool, true, false}
-use mathlib.Core.List.{List}
-use mathlib.Core.Logic.{_≢_}
-use Prim.Native.Nat.{ℕ, _+_, _-_, _≤_, _<_}
-use native.Mathlib.Decide.{ℕ-discrete}
-use native.Mathlib.Nat.{le-trans}
-use native.Mathlib.Omega.{arith}
-use lib.Dec.{leb, ltb}
-use lib.ListN.{length, getD, set}
-use borrow.Author.Tests.{le-leb, lt-ltb, leb-true, leb-false}
-use Rattle.basics.specs.Choice.{ite, both}
-use Rattle.basics.proofs.Choices.{clash, ite-true, ite-false, ite-case, both-true, both-left, both-right}
-use Rattle.tables.specs.declared.Hold.{Hold}
-use Rattle.tables.specs.declared.Line.{Line}
-use Rattle.tables.specs.declared.ReadNo.{ReadNo}
-use Rattle.tables.specs.Places.{wAt, rAt, holdAt, lineAt}
-use Rattle.tables.specs.Lines.{joined}
-use Rattle.tables.proofs.Form.{LineForm, HoldForm}
-use Rattle.tables.proofs.Lines.{joined-form, length-joined}
-use Rattle.form.specs.declared.Operation.{Operation}
-use Rattle.form.specs.declared.Operation.the-variants.{Idle, Writing, FirstWait, SecondWait}
-use Rattle.form.specs.declared.Tables.{Tables}
-use Rattle.events.specs.declared.Ruled.{Ruled}
-use Rattle.form.specs.Setting.{ownPlace, ownW, ownR, setR, setLines, setHeld}
-use Rattle.form.specs.Form.{inForm, atWriter, operationOk}
-use Rattle.events.specs.Rules.{readFromRule, proceedRule, holdRule}
-use Rattle.refusals.specs.Refusals.{lineFull, rightBit, tooHigh, stray}
-use Rattle.form.proofs.Stores.{r-set, r-set-ne, hold-set, hold-set-ne, line-set, line-set-ne}
-use Rattle.refusals.proofs.Passing.{line-room}
-use Rattle.form.proofs.InForm.{InForm, PlaceForm, PlaceOf}
-use Rattle.form.proofs.Shape.{Shaped, length-kept, lines-kept}
-use Rattle.form.proofs.Places.{place-raised, place-own, place-peer}
+use mathlib.Core.{Bool.{Bool, true, false}, List.List, Logic._≢_, Path.{_≡_, refl, sym, subst, _∙_}}
+use Prim.Native.Nat.{ℕ, _+_, _≤_, _<_}
+use native.Mathlib.{Decide.ℕ-discrete, Nat.le-trans, Omega.arith}
+use lib.{Dec.leb, ListN.{length, set}}
+use borrow.Author.Tests.{le-leb, leb-true, leb-false}
+use Rattle.basics.proofs.Choices.{ite-case, both-true, both-left, both-right}
+use Rattle.tables.{proofs.Form.{LineForm, HoldForm}, proofs.Lines.{joined-form, length-joined}, specs.Lines.joined}
+use Rattle.tables.specs.{Places.{wAt, rAt, holdAt, lineAt}, declared.Hold.Hold, declared.Line.Line, declared.ReadNo.ReadNo}
+use Rattle.form.proofs.{InForm.{InForm, PlaceForm, PlaceOf}, Places.{place-raised, place-peer}, Shape.{Shaped, length-kept, lines-kept}}
+use Rattle.form.{proofs.Stores.{r-set, r-set-ne, hold-set, hold-set-ne, line-set, line-set-ne}, specs.Form.{atWriter, operationOk}}
+use Rattle.form.specs.{Setting.{ownPlace, ownW, ownR, setLines, setHeld}, declared.Operation.Operation}
+use Rattle.form.specs.declared.{Operation.the-variants.{Idle, Writing, FirstWait, SecondWait}, Tables.Tables}
+use Rattle.events.specs.{Rules.{readFromRule, proceedRule, holdRule}, declared.Ruled.Ruled}
+use Rattle.refusals.{proofs.Passing.line-room, specs.Refusals.lineFull}
 
 -- an operation in form stays so while the panel's own numbers grow
 pub operation-raised : (o : Operation) (lead : Bool) (x y x′ y′ : ℕ) → operationOk o lead x y ≡ true → x ≤ x′ → y ≤ y′ → operationOk o lead x′ y′ ≡ true

@@ -1,28 +1,16 @@
 -- A write and a read that start keep the panel in form.
 -- Assumes nothing.
-use mathlib.Core.Path.{_≡_, refl, sym, ap, subst, subst₂, _∙_}
-use mathlib.Core.Bool.{Bool, true, false}
-use mathlib.Core.List.{List}
-use mathlib.Core.Logic.{_≢_}
-use Prim.Native.Nat.{ℕ, _+_, _-_, _≤_, _<_}
-use native.Mathlib.Decide.{ℕ-discrete}
-use native.Mathlib.Omega.{arith}
-use lib.ListN.{length, getD, set}
-use lib.Seq.{getD-set-other}
+use mathlib.Core.{Bool.true, List.List, Path.{_≡_, sym, subst, _∙_}}
+use Prim.Native.Nat.{ℕ, _+_, _≤_, _<_}
+use native.Mathlib.{Decide.ℕ-discrete, Omega.arith}
+use lib.{ListN.set, Seq.getD-set-other}
 use borrow.Author.Tests.{le-leb}
 use Rattle.basics.proofs.Choices.{both-true}
-use Rattle.tables.specs.declared.WriteNo.{WriteNo}
-use Rattle.tables.specs.declared.ReadNo.{ReadNo}
-use Rattle.tables.specs.Places.{wAt, rAt, holdAt, lineAt}
+use Rattle.tables.specs.{Places.{wAt, rAt, holdAt, lineAt}, declared.ReadNo.ReadNo, declared.WriteNo.WriteNo}
+use Rattle.form.proofs.{InForm.{InForm, PlaceForm}, Places.{place-raised, place-own}, Shape.{Shaped, length-kept}}
+use Rattle.form.{proofs.Stores.{w-set, w-set-ne, r-set, r-set-ne}, specs.Form.{atWriter, operationOk}, specs.Setting.{ownPlace, ownW, ownR}}
 use Rattle.form.specs.declared.Tables.{Tables}
-use Rattle.form.specs.Setting.{ownPlace, ownW, ownR, setW, setR, setHistory, setOperation}
-use Rattle.form.specs.Form.{inForm, atWriter, operationOk}
 use Rattle.events.specs.Rules.{learned, writeRule, readRule}
-use Rattle.form.proofs.Stores.{w-set, w-set-ne, r-set, r-set-ne}
-use Rattle.refusals.proofs.Passing.{MayWrite, MayRead}
-use Rattle.form.proofs.InForm.{InForm, PlaceForm, PlaceOf, form-view}
-use Rattle.form.proofs.Shape.{Shaped, length-kept}
-use Rattle.form.proofs.Places.{place-raised, place-own}
 
 -- the panel's own place
 pub own-place : (p : Tables) → InForm p → (ownPlace p + 1 ≡ p .number) × (ownPlace p < p .n) × (ownPlace p < 7)

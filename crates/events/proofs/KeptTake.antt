@@ -1,30 +1,16 @@
 -- A WRITE that is taken, with the held one behind it and the READs that leave, keeps the panel in form.
 -- Assumes nothing.
-use mathlib.Core.Path.{_≡_, refl, sym, ap, subst, _∙_}
-use mathlib.Core.Bool.{Bool, true, false}
-use mathlib.Core.List.{List}
-use mathlib.Core.Logic.{_≢_, _⊎_, inl, inr}
-use Prim.Native.Nat.{ℕ, _+_, _-_, _≤_, _<_}
-use native.Mathlib.Decide.{ℕ-discrete}
-use native.Mathlib.Omega.{arith}
-use lib.ListN.{length, getD, set}
-use Rattle.tables.specs.declared.Hold.{Hold}
-use Rattle.tables.specs.declared.Line.{Line}
-use Rattle.tables.specs.Places.{wAt, rAt, holdAt, lineAt}
-use Rattle.tables.specs.Lines.{leaving, without}
-use Rattle.tables.proofs.Form.{LineForm, HoldForm}
-use Rattle.tables.proofs.Lines.{raised-form, without-form, length-without}
-use Rattle.form.specs.declared.Tables.{Tables}
-use Rattle.events.specs.declared.Took.{Took}
-use Rattle.form.specs.Setting.{ownPlace, ownW, ownR}
-use Rattle.form.specs.Form.{atWriter, operationOk}
+use mathlib.Core.{Bool.{Bool, true, false}, List.List, Logic.{_≢_, _⊎_, inl, inr}, Path.{_≡_, refl, sym, ap, subst, _∙_}}
+use Prim.Native.Nat.{ℕ, _+_, _≤_, _<_}
+use native.Mathlib.{Decide.ℕ-discrete, Omega.arith}
+use lib.ListN.{set}
+use Rattle.tables.{proofs.Lines.{raised-form, without-form, length-without}, specs.Lines.{leaving, without}}
+use Rattle.tables.specs.{Places.{wAt, rAt, holdAt, lineAt}, declared.Hold.Hold, declared.Line.Line}
+use Rattle.form.proofs.{InForm.{InForm, PlaceForm, PlaceOf}, Places.{place-raised, place-own, place-peer, empty-hold}}
+use Rattle.form.{proofs.Shape.{Shaped, lines-kept}, proofs.Stores.{line-set, line-set-ne}, specs.Form.atWriter}
+use Rattle.form.specs.{Setting.{ownPlace, ownW, ownR}, declared.Tables.Tables}
 use Rattle.events.specs.Rules.{take, takeHeld, released, takeRule}
-use Rattle.form.proofs.Stores.{line-set, line-set-ne}
-use Rattle.form.proofs.InForm.{InForm, PlaceForm, PlaceOf}
-use Rattle.form.proofs.Shape.{Shaped, LinesLong, lines-kept}
-use Rattle.form.proofs.Places.{place-raised, place-own, place-peer, empty-hold}
-use Rattle.events.proofs.KeptStarts.{own-place}
-use Rattle.events.proofs.KeptPeers.{PeerPlace, operation-raised}
+use Rattle.events.proofs.{KeptPeers.{PeerPlace, operation-raised}, KeptStarts.own-place}
 use Rattle.events.proofs.Taking.{Stage, at-stage, Taken, taken, HeldTaken, held-taken}
 
 module _ (p : Tables) (s : Shaped p) (f : InForm p) (k : ℕ) (at : PeerPlace p k) where

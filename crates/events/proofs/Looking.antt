@@ -1,26 +1,15 @@
 -- What the code's marks tell of "at least n−t panels".
 -- Assumes nothing.
-use mathlib.Core.Path.{_≡_, sym, ap, subst, _∙_}
-use mathlib.Core.Bool.{Bool, true, false}
-use mathlib.Core.List.{List}
+use mathlib.Core.{Bool.{Bool, true, false}, List.List, Path.{_≡_, sym, ap, subst, _∙_}}
 use Prim.Native.Nat.{ℕ, _-_, _≤_}
-use lib.Dec.{leb}
-use lib.ListN.{getD}
-use Rattle.basics.specs.Below.{countBelow}
-use Rattle.basics.proofs.Choices.{ite-true, ite-false}
+use lib.{Dec.leb, ListN.getD}
+use Rattle.basics.{proofs.Choices.{ite-true, ite-false}, specs.Below.countBelow}
+use Rattle.tables.{proofs.Marks.enough-marked, specs.Marks.{hasW, hasR, marks, enough}, specs.Places.{wAt, rAt, noWrite}}
 use Rattle.tables.specs.declared.WriteNo.{WriteNo}
-use Rattle.tables.specs.Places.{wAt, rAt, noWrite}
-use Rattle.tables.specs.Marks.{hasW, reachesW, hasR, marks, enough}
-use Rattle.tables.proofs.Marks.{enough-marked}
-use Rattle.form.specs.declared.Operation.{Operation}
-use Rattle.form.specs.declared.Operation.the-variants.{Idle, SecondWait}
+use Rattle.form.specs.{Setting.{ownW, ownR, setOperation}, declared.Operation.Operation, declared.Operation.the-variants.{Idle, SecondWait}}
 use Rattle.form.specs.declared.Tables.{Tables}
-use Rattle.events.specs.declared.Looked.{Looked}
-use Rattle.events.specs.declared.Answer.the-variants.{Nothing, Wrote, Gave}
-use Rattle.form.specs.Setting.{ownW, ownR, setOperation}
-use Rattle.events.specs.Rules.{valueOf}
-use Rattle.events.specs.Look.{lookWriting, lookSecond, lookFirst, lookAs, look}
-use Rattle.events.specs.Asked.{snOf}
+use Rattle.events.specs.{Asked.snOf, Look.{lookWriting, lookSecond, lookFirst, lookAs, look}}
+use Rattle.events.specs.declared.Answer.the-variants.{Nothing, Wrote}
 
 pub enough-told : (n t : ℕ) (f : ℕ → Bool) (marked : List Bool) (r : Bool) → marked ≡ marks n f → r ≡ leb (n - t) (countBelow 7 (λ (j : ℕ). getD marked j false)) → r ≡ enough n t f
 enough-told n t f marked r m e = e ∙ ap (λ (l : List Bool). leb (n - t) (countBelow 7 (λ (j : ℕ). getD l j false))) m ∙ enough-marked n t f

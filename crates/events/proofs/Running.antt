@@ -1,36 +1,19 @@
 -- What the calls between the panel's own functions ask: that a rule leaves tables that can be looked at, and that one WRITE taken
 -- leaves tables from which the held one can be taken.
 -- Assumes nothing.
-use mathlib.Core.Path.{_≡_, refl, sym, ap, subst, _∙_}
-use mathlib.Core.Bool.{Bool, true, false}
-use mathlib.Core.List.{List}
-use mathlib.Core.Logic.{_≢_, _⊎_, inl, inr}
+use mathlib.Core.{Bool.{Bool, true}, List.List, Logic.{_≢_, _⊎_, inl, inr}, Path.{_≡_, refl, sym, ap, subst, _∙_}}
 use Prim.Native.Nat.{ℕ, _+_, _-_, _≤_, _<_}
-use native.Mathlib.Decide.{ℕ-discrete, decLt}
-use native.Mathlib.Nat.{le-trans}
-use native.Mathlib.Omega.{arith}
-use lib.Dec.{ltb, eqb, leb}
-use lib.ListN.{length, set}
-use lib.Seq.{set-out}
-use borrow.Author.Tests.{eqb-true, eqb-false, ltb-true, ltb-false, leb-true}
-use Rattle.basics.specs.Choice.{ite}
+use native.Mathlib.{Decide.{ℕ-discrete, decLt}, Nat.le-trans, Omega.arith}
+use lib.{ListN.{length, set}, Seq.set-out}
+use borrow.Author.Tests.{eqb-true, eqb-false, leb-true}
 use Rattle.basics.proofs.Choices.{ite-case, both-right}
-use Rattle.tables.specs.declared.WriteNo.{WriteNo}
-use Rattle.tables.specs.declared.Hold.{Hold}
-use Rattle.tables.specs.Places.{wAt, holdAt, noHold}
-use Rattle.form.specs.declared.Operation.{Operation}
-use Rattle.form.specs.declared.Operation.the-variants.{Idle, Writing, FirstWait, SecondWait}
-use Rattle.form.specs.declared.Tables.{Tables}
-use Rattle.events.specs.declared.Took.{Took}
-use Rattle.events.specs.declared.Ruled.{Ruled}
-use Rattle.form.specs.Setting.{ownPlace, ownW, ownR, setW, setHistory, setHeld}
-use Rattle.form.specs.Form.{atWriter, operationOk}
-use Rattle.events.specs.Rules.{learned, spread, reached, take, takeHeld, released, takeRule, writeRule, readRule, readFromRule, proceedRule, holdRule}
-use Rattle.form.specs.Asked.{Sized}
+use Rattle.tables.specs.{Places.{wAt, holdAt, noHold}, declared.Hold.Hold, declared.WriteNo.WriteNo}
+use Rattle.form.{proofs.InForm.{InForm, sized}, proofs.Shape.length-kept, proofs.Stores.{w-set, w-set-ne}, specs.Asked.Sized}
+use Rattle.form.specs.{Form.{atWriter, operationOk}, Setting.{ownPlace, ownW, ownR, setW, setHistory, setHeld}}
+use Rattle.form.specs.declared.{Operation.Operation, Operation.the-variants.{Idle, Writing, FirstWait, SecondWait}, Tables.Tables}
 use Rattle.events.specs.Asked.{snOf, Takes, TakesHeld, Looks}
-use Rattle.form.proofs.Stores.{w-set, w-set-ne}
-use Rattle.form.proofs.InForm.{InForm, sized}
-use Rattle.form.proofs.Shape.{length-kept}
+use Rattle.events.specs.Rules.{learned, reached, take, takeHeld, released, takeRule, writeRule, readRule, readFromRule, proceedRule, holdRule}
+use Rattle.events.specs.declared.{Ruled.Ruled, Took.Took}
 
 -- a store of a number at most n leaves every number at most n
 pub w-set-most : (ws : List WriteNo) (k j n : ℕ) (x : WriteNo) → wAt ws j ≤ n → x .0 ≤ n → wAt (set ws k x) j ≤ n

@@ -1,27 +1,15 @@
 -- What taking WRITEs of one peer does to a panel's tables: stages, one for each WRITE taken.
 -- Assumes nothing.
-use mathlib.Core.Path.{_≡_, refl, sym, ap, subst, _∙_}
-use mathlib.Core.Bool.{Bool, true, false}
-use mathlib.Core.List.{List}
-use mathlib.Core.Logic.{_≢_, _⊎_, inl, inr}
-use Prim.Native.Nat.{ℕ, _+_, _-_, _≤_, _<_}
-use native.Mathlib.Decide.{ℕ-discrete}
+use mathlib.Core.{Bool.{true, false}, List.List, Logic.{_≢_, _⊎_, inl, inr}, Path.{_≡_, refl, sym, ap, _∙_}}
+use Prim.Native.Nat.{ℕ, _+_, _≤_, _<_}
 use native.Mathlib.Omega.{arith}
-use lib.Dec.{ltb, eqb}
-use lib.ListN.{length, getD, set}
-use lib.Seq.{getD-set-other}
-use borrow.Author.Tests.{eqb-true, eqb-false, ltb-true, ltb-false}
-use Rattle.basics.specs.Choice.{ite}
+use lib.{Dec.{ltb, eqb}, ListN.{length, getD, set}, Seq.getD-set-other}
+use borrow.Author.Tests.{eqb-true, eqb-false}
 use Rattle.basics.proofs.Choices.{ite-case}
-use Rattle.tables.specs.declared.WriteNo.{WriteNo}
-use Rattle.tables.specs.declared.Hold.{Hold}
-use Rattle.tables.specs.Places.{wAt, holdAt, noHold}
+use Rattle.tables.specs.{Places.{wAt, holdAt, noHold}, declared.Hold.Hold, declared.WriteNo.WriteNo}
+use Rattle.form.{proofs.Shape.length-kept, proofs.Stores.{w-set, w-set-ne, hold-set, hold-set-ne}, specs.Setting.{ownPlace, ownW}}
 use Rattle.form.specs.declared.Tables.{Tables}
-use Rattle.events.specs.declared.Took.{Took}
-use Rattle.form.specs.Setting.{ownPlace, ownW, setW, setHistory, setHeld}
-use Rattle.events.specs.Rules.{learned, spread, reached, take, takeHeld, valueOf}
-use Rattle.form.proofs.Stores.{w-set, w-set-ne, hold-set, hold-set-ne}
-use Rattle.form.proofs.Shape.{Shaped, length-kept}
+use Rattle.events.specs.{Rules.{learned, spread, reached, take, takeHeld}, declared.Took.Took}
 use Rattle.events.proofs.KeptPeers.{PeerPlace}
 
 -- the panel with other write numbers, another history and other holds

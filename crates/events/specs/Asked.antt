@@ -1,14 +1,10 @@
 -- What the panel's private functions ask of their callers. Every public call shows these for itself.
 -- Assumes nothing.
 use Prim.Native.Nat.{ℕ, _+_, _≤_, _<_}
-use mathlib.Core.Path.{_≡_}
-use mathlib.Core.Bool.{true}
+use mathlib.Core.{Bool.true, Path._≡_}
 use Rattle.tables.specs.Places.{wAt, holdAt}
-use Rattle.form.specs.declared.Operation.{Operation}
-use Rattle.form.specs.declared.Operation.the-variants.{Idle, Writing, FirstWait, SecondWait}
-use Rattle.form.specs.declared.Tables.{Tables}
-use Rattle.form.specs.Setting.{ownPlace, ownW}
-use Rattle.form.specs.Asked.{Sized}
+use Rattle.form.specs.{Asked.Sized, Setting.{ownPlace, ownW}, declared.Operation.Operation}
+use Rattle.form.specs.declared.{Operation.the-variants.{Idle, Writing, FirstWait, SecondWait}, Tables.Tables}
 
 -- the sn of the second wait
 unfoldable pub snOf : Operation → ℕ

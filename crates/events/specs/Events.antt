@@ -1,27 +1,13 @@
 -- What an event comes to at one panel: refused, or its rule and then the look at the operation.
 -- Assumes nothing.
-use Prim.Native.Nat.{ℕ, _+_, _-_, _%_}
-use mathlib.Core.Bool.{Bool, true, false, not}
-use mathlib.Core.List.{List, [], _∷_, _++_}
-use lib.Dec.{leb, ltb, eqb}
-use Rattle.basics.specs.Choice.{ite, both}
-use Rattle.basics.specs.Below.{oneIf}
-use Rattle.basics.specs.Refusal.{Trial, firstOf}
+use Prim.Native.Nat.{ℕ, _-_}
+use lib.Dec.{eqb}
+use Rattle.basics.specs.Choice.{ite}
 use Rattle.messages.specs.Sends.{noSends}
-use Rattle.tables.specs.Places.{wAt, rAt, holdAt, lineAt}
-use Rattle.form.specs.declared.Operation.{Operation}
-use Rattle.form.specs.declared.Operation.the-variants.{Idle, Writing, FirstWait, SecondWait}
 use Rattle.form.specs.declared.Tables.{Tables}
-use Rattle.events.specs.declared.Answer.the-variants.{Refused}
-use Rattle.events.specs.declared.Ruled.{Ruled}
-use Rattle.events.specs.declared.Done.{Done}
-use Rattle.form.specs.Setting.{ownW, ownR}
-use Rattle.form.specs.Form.{inForm, isPanel, atWriter}
-use Rattle.events.specs.Rules.{writeRule, readRule, takeRule, holdRule, readFromRule, proceedRule}
-use Rattle.events.specs.declared.Looked.{Looked}
-use Rattle.events.specs.Look.{look}
-use Rattle.refusals.specs.Refusals.{Event, rightBit, refusal}
-use Rattle.refusals.specs.Refusals.Event.{write, read, writeFrom, readFrom, proceedFrom}
+use Rattle.events.specs.{Look.look, Rules.{writeRule, readRule, takeRule, holdRule, readFromRule, proceedRule}}
+use Rattle.events.specs.declared.{Answer.the-variants.Refused, Done.Done, Looked.Looked, Ruled.Ruled}
+use Rattle.refusals.specs.Refusals.{Event, rightBit, refusal, Event.{write, read, writeFrom, readFrom, proceedFrom}}
 
 -- its own rule
 unfoldable pub rule : Tables → Event → Ruled

@@ -1,16 +1,10 @@
 -- "After every accepted event the operation is looked at": lines 3 and 4, 7 to 10.
 -- Assumes nothing.
-use Prim.Native.Nat.{ℕ}
 use Rattle.basics.specs.Choice.{ite}
-use Rattle.tables.specs.declared.WriteNo.{WriteNo}
-use Rattle.tables.specs.Marks.{hasW, reachesW, hasR, enough}
-use Rattle.form.specs.declared.Operation.{Operation}
-use Rattle.form.specs.declared.Operation.the-variants.{Idle, Writing, FirstWait, SecondWait}
-use Rattle.form.specs.declared.Tables.{Tables}
-use Rattle.events.specs.declared.Answer.the-variants.{Nothing, Wrote, Gave}
-use Rattle.events.specs.declared.Looked.{Looked}
-use Rattle.form.specs.Setting.{ownW, ownR, setOperation}
-use Rattle.events.specs.Rules.{valueOf}
+use Rattle.tables.specs.{Marks.{hasW, reachesW, hasR, enough}, declared.WriteNo.WriteNo}
+use Rattle.form.specs.{Setting.{ownW, ownR, setOperation}, declared.Operation.Operation}
+use Rattle.form.specs.declared.{Operation.the-variants.{Idle, Writing, FirstWait, SecondWait}, Tables.Tables}
+use Rattle.events.specs.{Rules.valueOf, declared.Answer.the-variants.{Nothing, Wrote, Gave}, declared.Looked.Looked}
 
 -- line 3: "Writing ends when at least n−t panels j have w[j] = w[i]"
 unfoldable pub lookWriting : Tables → Looked

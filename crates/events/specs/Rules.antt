@@ -1,25 +1,16 @@
 -- What each event's own rule does, lines 1 to 22 of Figure 1. A rule here knows nothing of refusals (specs/Events) and does not look
 -- at the operation (specs/Look). The peer that an event comes from stands at place k.
 -- Assumes nothing.
-use Prim.Native.Nat.{ℕ, _+_, _-_, _%_}
-use mathlib.Core.Bool.{Bool, true}
-use mathlib.Core.List.{List}
-use lib.Dec.{leb, ltb, eqb}
-use lib.ListN.{getD, set}
+use Prim.Native.Nat.{ℕ, _+_, _%_}
+use mathlib.Core.Bool.{true}
+use lib.{Dec.{leb, ltb, eqb}, ListN.{getD, set}}
 use Rattle.basics.specs.Choice.{ite}
-use Rattle.messages.specs.declared.Cast.{Cast}
-use Rattle.messages.specs.declared.Sends.{Sends}
-use Rattle.messages.specs.Sends.{noCast, noSends}
-use Rattle.tables.specs.declared.WriteNo.{WriteNo}
-use Rattle.tables.specs.declared.Line.{Line}
+use Rattle.messages.specs.{Sends.noCast, declared.Cast.Cast, declared.Sends.Sends}
+use Rattle.tables.specs.{Lines.{joined, leaving, without}, Marks.{hasW, marks, isOther, onlyPlace}}
 use Rattle.tables.specs.Places.{wAt, rAt, holdAt, lineAt, noHold}
-use Rattle.tables.specs.Marks.{hasW, marks, isOther, onlyPlace}
-use Rattle.tables.specs.Lines.{joined, leaving, without}
-use Rattle.form.specs.declared.Operation.the-variants.{Writing, FirstWait}
-use Rattle.form.specs.declared.Tables.{Tables}
-use Rattle.events.specs.declared.Took.{Took}
-use Rattle.events.specs.declared.Ruled.{Ruled}
 use Rattle.form.specs.Setting.{ownPlace, ownW, ownR, setW, setR, setHistory, setHeld, setLines, setOperation}
+use Rattle.form.specs.declared.{Operation.the-variants.{Writing, FirstWait}, Tables.Tables}
+use Rattle.events.specs.declared.{Ruled.Ruled, Took.Took}
 
 -- the value of write number x
 unfoldable pub valueOf : Tables → ℕ → ℕ

@@ -1,22 +1,14 @@
 -- A fresh panel is in form, whatever n, t, writer, number and initial value set-up takes.
 -- Assumes nothing.
-use mathlib.Core.Path.{_≡_, refl, sym, ap, subst, _∙_}
-use mathlib.Core.Bool.{true, false}
+use mathlib.Core.{Bool.{true, false}, Path.{_≡_, refl, sym, ap, subst, _∙_}}
 use Prim.Native.Nat.{ℕ, _-_, _<_}
 use native.Mathlib.Omega.{arith}
-use lib.Dec.{eqb}
-use lib.ListN.{replicate, getD-replicate}
-use lib.Seq.{getD-set-other}
+use lib.{Dec.eqb, ListN.{replicate, getD-replicate}, Seq.getD-set-other}
 use Rattle.basics.proofs.Lists.{getD-same}
-use Rattle.tables.specs.declared.WriteNo.{WriteNo}
-use Rattle.tables.specs.declared.ReadNo.{ReadNo}
-use Rattle.tables.specs.declared.Hold.{Hold}
-use Rattle.tables.specs.declared.Line.{Line}
-use Rattle.tables.specs.Places.{wAt, rAt, holdAt, lineAt, noWrite, noRead, noHold, noLine}
-use Rattle.tables.proofs.Form.{LineForm}
+use Rattle.tables.{proofs.Form.LineForm, specs.Places.{wAt, rAt, holdAt, lineAt, noWrite, noRead, noHold, noLine}, specs.declared.Hold.Hold}
+use Rattle.tables.specs.declared.{Line.Line, ReadNo.ReadNo, WriteNo.WriteNo}
 use Rattle.form.specs.Form.{fits, isPanel, atWriter, operationOk, emptyLine, fresh}
-use Rattle.form.proofs.InForm.{InForm, PlaceForm, fits-view, panel-iff}
-use Rattle.form.proofs.Places.{empty-hold, empty-line}
+use Rattle.form.proofs.{InForm.{InForm, PlaceForm, fits-view, panel-iff}, Places.{empty-hold, empty-line}}
 
 zero-w : (j : ℕ) → wAt (replicate 7 noWrite) j ≡ 0
 zero-w j = ap (λ (x : WriteNo). x .0) (getD-same 7 noWrite j)

@@ -1,25 +1,16 @@
 -- In form, as a test that computes and as a record that proofs use, with a law each way.
 -- Assumes nothing.
-use mathlib.Core.Path.{_≡_, refl, sym, _∙_}
-use mathlib.Core.Bool.{Bool, true, false}
-use mathlib.Core.Logic.{_↔_}
-use Prim.Native.Nat.{ℕ, _+_, _-_, _*_, _≤_, _<_}
+use mathlib.Core.{Bool.{Bool, true, false}, Logic._↔_, Path.{_≡_, refl, sym, _∙_}}
+use Prim.Native.Nat.{ℕ, _+_, _*_, _≤_, _<_}
 use native.Mathlib.Omega.{arith}
-use lib.Dec.{leb, eqb}
-use lib.ListN.{getD}
+use lib.{Dec.{leb, eqb}, ListN.getD}
 use borrow.Author.Tests.{ltb-true, leb-true, eqb-true, lt-ltb, le-leb, eq-eqb}
+use Rattle.basics.proofs.{Below.{all-at, all-of}, Choices.{ite-true, ite-false, ite-case, both-left, both-right, both-true}}
 use Rattle.basics.specs.Choice.{ite, both}
-use Rattle.basics.proofs.Choices.{ite-true, ite-false, ite-case, both-left, both-right, both-true}
-use Rattle.basics.proofs.Below.{all-at, all-of}
-use Rattle.tables.specs.declared.Hold.{Hold}
-use Rattle.tables.specs.declared.Line.{Line}
-use Rattle.tables.specs.Places.{wAt, rAt, holdAt, lineAt}
-use Rattle.tables.specs.Form.{quietOk}
-use Rattle.tables.proofs.Form.{LineForm, lineOk-iff, HoldForm, holdOk-iff, quietOk-iff, historyOk-iff}
+use Rattle.tables.{proofs.Form.{LineForm, lineOk-iff, HoldForm, holdOk-iff, quietOk-iff, historyOk-iff}, specs.Form.quietOk}
+use Rattle.tables.specs.{Places.{wAt, rAt, holdAt, lineAt}, declared.Hold.Hold, declared.Line.Line}
+use Rattle.form.specs.{Asked.Sized, Form.{fits, isPanel, atWriter, placeWith, placeOk, operationOk, inForm}, Setting.{ownW, ownR}}
 use Rattle.form.specs.declared.Tables.{Tables}
-use Rattle.form.specs.Setting.{ownW, ownR}
-use Rattle.form.specs.Form.{fits, isPanel, atWriter, placeWith, placeOk, operationOk, inForm}
-use Rattle.form.specs.Asked.{Sized}
 
 -- ---- sizes
 

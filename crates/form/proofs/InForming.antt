@@ -1,18 +1,12 @@
 -- The ways out of the test of form, for its code.
 -- Assumes nothing.
-use mathlib.Core.Path.{_≡_}
-use mathlib.Core.Bool.{true, false}
+use mathlib.Core.{Bool.{true, false}, Path._≡_}
 use Prim.Native.Nat.{ℕ, _-_, _≤_}
 use native.Mathlib.Omega.{arith}
 use lib.Dec.{leb}
-use Rattle.basics.specs.Choice.{both}
-use Rattle.basics.specs.Below.{allBelow}
-use Rattle.basics.proofs.Choices.{both-false-left, both-false-right}
-use Rattle.tables.specs.Places.{wAt, rAt}
-use Rattle.tables.specs.Form.{historyOk}
-use Rattle.form.specs.declared.Tables.{Tables}
-use Rattle.form.specs.Form.{fits, isPanel, atWriter, placeOk, operationOk, inForm}
-use Rattle.form.specs.Asked.{Sized}
+use Rattle.basics.{proofs.Choices.{both-false-left, both-false-right}, specs.Below.allBelow, specs.Choice.both}
+use Rattle.tables.specs.{Form.historyOk, Places.{wAt, rAt}}
+use Rattle.form.specs.{Asked.Sized, Form.{fits, isPanel, atWriter, placeOk, operationOk, inForm}, declared.Tables.Tables}
 use Rattle.form.proofs.InForm.{fits-view, panel-iff}
 
 pub not-fitting : (p : Tables) → fits (p .n) (p .t) (p .writer) ≡ false → inForm p ≡ false

@@ -1,3 +1,4 @@
+pub mod Cases
 pub mod Stores
 pub mod InForm
 pub mod Shape

@@ -1,15 +1,11 @@
 -- How one place stays in form when numbers grow, and when nothing is held or waiting there.
 -- Assumes nothing.
-use mathlib.Core.Path.{_≡_}
-use mathlib.Core.Bool.{Bool, false}
+use mathlib.Core.{Bool.{Bool, false}, Path._≡_}
 use Prim.Native.Nat.{ℕ, _+_, _≤_, _<_}
 use native.Mathlib.Omega.{arith}
 use Rattle.basics.proofs.Choices.{clash}
-use Rattle.tables.specs.declared.Hold.{Hold}
+use Rattle.tables.{proofs.Form.{LineForm, HoldForm}, proofs.Lines.raised-form, specs.Places.wAt, specs.declared.Hold.Hold}
 use Rattle.tables.specs.declared.Line.{Line}
-use Rattle.tables.specs.Places.{wAt}
-use Rattle.tables.proofs.Form.{LineForm, HoldForm}
-use Rattle.tables.proofs.Lines.{raised-form}
 use Rattle.form.proofs.InForm.{PlaceForm}
 
 pub hold-raised : (h : Hold) (low high high′ : ℕ) (lead : Bool) → HoldForm h low high lead → high ≤ high′ → HoldForm h low high′ lead

@@ -1,16 +1,11 @@
 -- The lengths of a panel's tables. In the code they are the arrays' types; in the definitions a law that reads a store back asks for them.
 -- Assumes nothing.
-use mathlib.Core.Path.{_≡_, refl, sym, ap, subst, _∙_}
-use mathlib.Core.List.{List}
-use mathlib.Core.Logic.{_≢_}
+use mathlib.Core.{List.List, Path.{_≡_, ap, _∙_}}
 use Prim.Native.Nat.{ℕ, _<_}
-use native.Mathlib.Decide.{ℕ-discrete}
-use native.Mathlib.Omega.{arith}
+use native.Mathlib.{Decide.ℕ-discrete, Omega.arith}
 use lib.ListN.{length, set, replicate, length-replicate, length-set, getD-replicate}
-use Rattle.tables.specs.declared.Line.{Line}
-use Rattle.tables.specs.Places.{lineAt, noWrite, noRead, noHold, noLine}
-use Rattle.form.specs.declared.Tables.{Tables}
-use Rattle.form.specs.Form.{fresh, emptyLine}
+use Rattle.tables.specs.{Places.{lineAt, noWrite, noRead, noHold, noLine}, declared.Line.Line}
+use Rattle.form.specs.{Form.{fresh, emptyLine}, declared.Tables.Tables}
 use Rattle.form.proofs.Stores.{line-set, line-set-ne}
 
 pub record LinesLong (ls : List Line) : Type 0 where

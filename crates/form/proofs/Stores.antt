@@ -1,16 +1,10 @@
 -- What a table reads after a store: at the place itself, and at another place.
 -- Assumes nothing.
-use mathlib.Core.Path.{_≡_, ap}
-use mathlib.Core.List.{List}
-use mathlib.Core.Logic.{_≢_}
+use mathlib.Core.{List.List, Logic._≢_, Path.{_≡_, ap}}
 use Prim.Native.Nat.{ℕ, _<_}
-use lib.ListN.{length, set}
-use lib.Seq.{getD-set-same, getD-set-other}
-use Rattle.tables.specs.declared.WriteNo.{WriteNo}
-use Rattle.tables.specs.declared.ReadNo.{ReadNo}
-use Rattle.tables.specs.declared.Hold.{Hold}
-use Rattle.tables.specs.declared.Line.{Line}
-use Rattle.tables.specs.Places.{wAt, rAt, holdAt, lineAt, noWrite, noRead, noHold, noLine}
+use lib.{ListN.{length, set}, Seq.{getD-set-same, getD-set-other}}
+use Rattle.tables.specs.{Places.{wAt, rAt, holdAt, lineAt, noWrite, noRead, noHold, noLine}, declared.Hold.Hold, declared.Line.Line}
+use Rattle.tables.specs.declared.{ReadNo.ReadNo, WriteNo.WriteNo}
 
 pub w-set : (ws : List WriteNo) (k : ℕ) (x : WriteNo) → k < length ws → wAt (set ws k x) k ≡ x .0
 w-set ws k x h = ap (λ (y : WriteNo). y .0) (getD-set-same ws k x noWrite h)

@@ -1,21 +1,13 @@
 -- When a panel is in form, clause by clause as the description's paragraph has it, and the panel that set-up makes.
 -- Assumes nothing.
-use Prim.Native.Nat.{ℕ, _+_, _-_, _*_}
-use mathlib.Core.Bool.{Bool, true, false, not}
-use mathlib.Core.List.{List, _∷_}
-use lib.Dec.{leb, ltb, eqb}
-use lib.ListN.{replicate, set}
-use Rattle.basics.specs.Choice.{ite, both}
-use Rattle.basics.specs.Below.{allBelow}
-use Rattle.tables.specs.declared.WriteNo.{WriteNo}
-use Rattle.tables.specs.declared.Hold.{Hold}
-use Rattle.tables.specs.declared.Line.{Line}
-use Rattle.tables.specs.Places.{wAt, rAt, holdAt, lineAt, noWrite, noRead, noHold}
-use Rattle.tables.specs.Form.{holdOk, lineOk, quietOk, historyOk}
-use Rattle.form.specs.declared.Operation.{Operation}
-use Rattle.form.specs.declared.Operation.the-variants.{Idle, Writing, FirstWait, SecondWait}
-use Rattle.form.specs.declared.Tables.{Tables}
-use Rattle.form.specs.Setting.{ownW, ownR}
+use Prim.Native.Nat.{ℕ, _+_, _*_}
+use mathlib.Core.Bool.{Bool, true}
+use lib.{Dec.{leb, ltb, eqb}, ListN.{replicate, set}}
+use Rattle.basics.specs.{Below.allBelow, Choice.{ite, both}}
+use Rattle.tables.specs.{Form.{holdOk, lineOk, quietOk, historyOk}, Places.{wAt, rAt, holdAt, lineAt, noWrite, noRead, noHold}}
+use Rattle.tables.specs.declared.{Hold.Hold, Line.Line}
+use Rattle.form.specs.{Setting.{ownW, ownR}, declared.Operation.Operation}
+use Rattle.form.specs.declared.{Operation.the-variants.{Idle, Writing, FirstWait, SecondWait}, Tables.Tables}
 
 -- what set-up takes: "n 1 to 7; t with 2·t < n; writer 1 to n"
 unfoldable pub fits : ℕ → ℕ → ℕ → Bool

@@ -2,13 +2,8 @@
 -- Assumes nothing.
 use Prim.Native.Nat.{ℕ, _-_}
 use mathlib.Core.List.{List}
-use Rattle.tables.specs.declared.WriteNo.{WriteNo}
-use Rattle.tables.specs.declared.ReadNo.{ReadNo}
-use Rattle.tables.specs.declared.Hold.{Hold}
-use Rattle.tables.specs.declared.Line.{Line}
-use Rattle.tables.specs.Places.{wAt, rAt}
-use Rattle.form.specs.declared.Operation.{Operation}
-use Rattle.form.specs.declared.Tables.{Tables}
+use Rattle.tables.specs.{Places.{wAt, rAt}, declared.Hold.Hold, declared.Line.Line, declared.ReadNo.ReadNo, declared.WriteNo.WriteNo}
+use Rattle.form.specs.declared.{Operation.Operation, Tables.Tables}
 
 -- i, as a place: panel 1 has place 0
 abbrev pub ownPlace : Tables → ℕ

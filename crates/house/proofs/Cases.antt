@@ -1,26 +1,20 @@
 -- Networks made by hand: which are in form, and what the search finds in them. A message found stands as its sender, receiver and
 -- kind.
 -- Assumes nothing.
-use mathlib.Core.Path.{_≡_, refl}
-use mathlib.Core.Bool.{Bool, true, false}
-use mathlib.Core.List.{List, [], _∷_}
+use mathlib.Core.{Bool.{Bool, true, false}, List.{List, [], _∷_}, Path.{_≡_, refl}}
 use Prim.Native.Nat.{ℕ}
 use lib.ListN.{replicate}
-use Rattle.basics.specs.Choice.{ite, both}
-use Rattle.basics.specs.Below.{oneIf, allBelow, countBelow}
+use Rattle.basics.specs.{Below.{oneIf, allBelow, countBelow}, Choice.{ite, both}}
 use Rattle.tables.specs.Form.{entryOk, lineOk, holdOk, quietOk, unknownOk, historyOk}
 use Rattle.form.specs.Form.{fits, isPanel, atWriter, placeWith, placeOk, operationOk, inForm, emptyLine, fresh}
 use Rattle.unused.specs.Unused as unused
 use Rattle.events.specs.Rules.{valueOf}
 use Rattle.panel.specs.declared.Panel.{Panel}
-use Rattle.channels.specs.declared.Channel.{Channel}
 use Rattle.channels.specs.Channels.{byKind, noChannel, inFlight, has, withReads, withProceeds, slotOk, channelOk, channelEmpty, leads, rowPlaceOk, rowOk, emptyRow}
-use Rattle.channels.specs.Posting.{withChannel}
-use Rattle.house.specs.declared.Network.{Network}
-use Rattle.house.specs.declared.Found.{Found}
-use Rattle.house.specs.Places.{rowAt, withPanel, withRow, withDown}
+use Rattle.channels.specs.{Posting.withChannel, declared.Channel.Channel}
+use Rattle.house.specs.{Places.{rowAt, withPanel, withRow, withDown}, Search.{live, firstBelow, spotAt, ofPair, ofSender, firstIn}}
+use Rattle.house.specs.declared.{Found.Found, Network.Network}
 use Rattle.house.specs.NetForm as net
-use Rattle.house.specs.Search.{live, firstBelow, spotAt, ofPair, ofSender, firstIn}
 
 panel : ℕ → ℕ → Panel
 panel number initial = record { tables = fresh 3 1 1 number initial }

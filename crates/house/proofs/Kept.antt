@@ -1,20 +1,16 @@
 -- A store keeps a network in form: a panel of the network in its own place, a row of channels in form, one more panel down where as
 -- many may be. n, t, the writer and the initial value stay.
 -- Assumes nothing.
-use mathlib.Core.Path.{_≡_, refl, sym, ap, subst, _∙_}
-use mathlib.Core.Bool.{Bool, true, false}
+use mathlib.Core.{Bool.{Bool, true, false}, Path.{_≡_, refl, sym, ap, subst, _∙_}}
 use Prim.Native.Nat.{ℕ, _+_, _<_}
-use native.Mathlib.Decide.{ℕ-discrete}
-use native.Mathlib.Omega.{arith}
+use native.Mathlib.{Decide.ℕ-discrete, Omega.arith}
 use Rattle.basics.proofs.Below.{count-alike}
 use Rattle.unused.specs.Unused.{unused}
 use Rattle.panel.specs.declared.Panel.{Panel}
-use Rattle.channels.specs.declared.Row.{Row}
-use Rattle.channels.specs.Channels.{rowOk}
-use Rattle.house.specs.declared.Network.{Network}
-use Rattle.house.specs.Places.{tablesAt, rowAt, downAt, nOf, tOf, writerOf, initialOf, withPanel, withRow, withDown}
+use Rattle.channels.specs.{Channels.rowOk, declared.Row.Row}
 use Rattle.house.specs.NetForm.{mayBeDown, downsIn, downs}
-use Rattle.house.specs.Whole.{Whole}
+use Rattle.house.specs.{Places.{tablesAt, rowAt, downAt, nOf, tOf, writerOf, initialOf, withPanel, withRow, withDown}, Whole.Whole}
+use Rattle.house.specs.declared.Network.{Network}
 use Rattle.house.proofs.NetForms.{Member, FormedAs, Formed, formed}
 use Rattle.house.proofs.Stores.{panel-with-panel, panel-with-panel-ne, row-with-row, row-with-row-ne, down-with-down, down-with-down-ne, downs-with-panel-kept, downs-with-row-kept, downs-with-down}
 

@@ -1,29 +1,21 @@
 -- A network in form, as a test that computes and as a record that proofs use, with a law each way; and that its live panels are
 -- enough.
 -- Assumes nothing.
-use mathlib.Core.Path.{_≡_, sym, ap, subst, _∙_}
-use mathlib.Core.Bool.{Bool, true, false, not, Bool·not-not}
+use mathlib.Core.{Bool.{Bool, true, false, not, Bool·not-not}, Path.{_≡_, sym, ap, subst, _∙_}}
 use Prim.Native.Nat.{ℕ, _+_, _≤_, _<_}
-use native.Mathlib.Nat.{le-trans}
-use native.Mathlib.Omega.{arith}
+use native.Mathlib.{Nat.le-trans, Omega.arith}
 use lib.Dec.{leb, ltb}
 use borrow.Author.Tests.{ltb-true, ltb-false, lt-ltb, le-ltb, leb-true, le-leb, eqb-true, eq-eqb, not-true}
-use Rattle.basics.specs.Choice.{ite, both}
-use Rattle.basics.specs.Below.{allBelow}
-use Rattle.basics.proofs.Choices.{ite-true, ite-false, ite-case, both-left, both-right, both-true}
-use Rattle.basics.proofs.Below.{all-at, all-of}
-use Rattle.tables.specs.Marks.{among, enough}
-use Rattle.tables.proofs.Counting.{count-more}
-use Rattle.tables.proofs.Quorum.{all-but-t}
+use Rattle.basics.proofs.{Below.{all-at, all-of}, Choices.{ite-true, ite-false, ite-case, both-left, both-right, both-true}}
+use Rattle.basics.specs.{Below.allBelow, Choice.{ite, both}}
+use Rattle.tables.{proofs.Counting.count-more, proofs.Quorum.all-but-t, specs.Marks.{among, enough}}
 use Rattle.form.specs.declared.Tables.{Tables}
 use Rattle.form.proofs.InForm as form
 use Rattle.unused.specs.Unused.{unused}
 use Rattle.events.specs.Rules.{valueOf}
 use Rattle.channels.specs.Channels.{rowOk}
-use Rattle.house.specs.declared.Network.{Network}
-use Rattle.house.specs.Places.{tablesAt, rowAt, downAt, nOf, tOf, writerOf, initialOf}
 use Rattle.house.specs.NetForm.{mayBeDown, downsIn, downs, memberWith, placeOk, channelsOk, netForm}
-use Rattle.house.specs.Search.{live}
+use Rattle.house.specs.{Places.{tablesAt, rowAt, downAt, nOf, tOf, writerOf, initialOf}, Search.live, declared.Network.Network}
 
 -- ---- one panel of a network
 

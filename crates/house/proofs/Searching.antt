@@ -1,25 +1,15 @@
 -- What the search finds: a message in flight to a live panel, with none before it by sender, then receiver, then kind; in a network in
 -- form one between two of its panels; and nothing only where nothing is in flight to a live panel.
 -- Assumes nothing.
-use mathlib.Core.Path.{_≡_, refl, sym, ap, subst, _∙_}
-use mathlib.Core.Bool.{Bool, true, false}
-use mathlib.Core.Logic.{_≢_, ⊎-elim}
+use mathlib.Core.{Bool.{Bool, true, false}, Logic.{_≢_, ⊎-elim}, Path.{_≡_, refl, sym, ap, subst, _∙_}}
 use Prim.Native.Nat.{ℕ, zero, suc, _+_, _-_, _≤_, _<_}
-use native.Mathlib.Decide.{decLt}
-use native.Mathlib.Nat.{not-suc-le-zero, eq-or-lt-of-le, le-of-suc-le-suc}
-use native.Mathlib.Omega.{arith}
-use Rattle.basics.specs.Choice.{both}
-use Rattle.basics.proofs.Choices.{ite-true, ite-false, ite-case, clash, both-left, both-right, both-true}
+use native.Mathlib.{Decide.decLt, Nat.{not-suc-le-zero, eq-or-lt-of-le, le-of-suc-le-suc}, Omega.arith}
+use Rattle.basics.{proofs.Choices.{ite-true, ite-false, ite-case, clash, both-left, both-right, both-true}, specs.Choice.both}
+use Rattle.channels.{proofs.Flying.{has-iff, none-empty}, proofs.RowForm.{RowForm, rowOk-iff}, specs.Channels.{noChannel, inFlight, has}}
 use Rattle.channels.specs.declared.Channel.{Channel}
-use Rattle.channels.specs.Channels.{noChannel, inFlight, has}
-use Rattle.channels.proofs.RowForm.{RowForm, rowOk-iff}
-use Rattle.channels.proofs.Flying.{has-iff, none-empty}
-use Rattle.house.specs.declared.Network.{Network}
-use Rattle.house.specs.declared.Found.{Found}
-use Rattle.house.specs.Places.{rowAt, channelOf, nOf}
-use Rattle.house.specs.Search.{live, firstBelow, spotAt, ofPair, ofSender, firstIn, flying}
-use Rattle.house.proofs.NetForms.{Formed}
-use Rattle.house.proofs.Turns.{first-none, first-step, spot}
+use Rattle.house.specs.{Places.{rowAt, channelOf, nOf}, Search.{live, firstBelow, spotAt, ofPair, ofSender, firstIn, flying}}
+use Rattle.house.specs.declared.{Found.Found, Network.Network}
+use Rattle.house.proofs.{NetForms.Formed, Turns.{first-none, first-step, spot}}
 
 -- ---- the first below a bound
 

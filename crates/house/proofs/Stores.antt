@@ -1,25 +1,17 @@
 -- What stands at a place of a network after a store: at the place itself and at another place (-ne); that a store keeps the
 -- tables' lengths; and how many are down after one more is.
 -- Assumes nothing.
-use mathlib.Core.Path.{_≡_, refl, sym, ap, subst, _∙_}
-use mathlib.Core.Bool.{Bool, true, false}
-use mathlib.Core.Logic.{_≢_}
+use mathlib.Core.{Bool.{Bool, true, false}, Logic._≢_, Path.{_≡_, refl, sym, ap, subst, _∙_}}
 use Prim.Native.Nat.{ℕ, zero, suc, _+_, _≤_, _<_}
-use native.Mathlib.Decide.{ℕ-discrete}
-use native.Mathlib.Nat.{not-suc-le-zero}
-use native.Mathlib.Omega.{arith}
-use lib.ListN.{length, getD, length-set, List·getD-eq-default}
-use lib.Seq.{getD-set-same, getD-set-other}
-use Rattle.basics.specs.Below.{oneIf, countBelow}
-use Rattle.basics.proofs.Below.{count-alike}
+use native.Mathlib.{Decide.ℕ-discrete, Nat.not-suc-le-zero, Omega.arith}
+use lib.{ListN.{length, getD, length-set, List·getD-eq-default}, Seq.{getD-set-same, getD-set-other}}
+use Rattle.basics.{proofs.Below.count-alike, specs.Below.{oneIf, countBelow}}
 use Rattle.form.proofs.Shape.{Shaped}
 use Rattle.panel.specs.declared.Panel.{Panel}
-use Rattle.channels.specs.declared.Row.{Row}
-use Rattle.channels.specs.Channels.{noRow, noChannel}
-use Rattle.house.specs.declared.Network.{Network}
-use Rattle.house.specs.Places.{nobody, panelAt, tablesAt, rowAt, downAt, channelOf, withPanel, withRow, withDown}
+use Rattle.channels.specs.{Channels.{noRow, noChannel}, declared.Row.Row}
 use Rattle.house.specs.NetForm.{downsIn, downs}
-use Rattle.house.specs.Whole.{Whole}
+use Rattle.house.specs.{Places.{nobody, panelAt, tablesAt, rowAt, downAt, channelOf, withPanel, withRow, withDown}, Whole.Whole}
+use Rattle.house.specs.declared.Network.{Network}
 
 -- ---- past the last place nothing stands
 

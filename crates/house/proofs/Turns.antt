@@ -1,18 +1,12 @@
 -- The laws by which the search's three loops go, for its code.
 -- Assumes nothing.
-use mathlib.Core.Path.{_≡_, refl, sym, ap, _∙_}
-use mathlib.Core.Bool.{Bool, true, false, not}
-use mathlib.Core.Logic.{⊎-elim}
+use mathlib.Core.{Bool.{Bool, true, false, not}, Logic.⊎-elim, Path.{_≡_, refl, sym, ap, _∙_}}
 use Prim.Native.Nat.{ℕ, zero, suc, _+_, _<_}
-use native.Mathlib.Numerals.{add-one}
-use native.Mathlib.Nat.{not-suc-le-zero, eq-or-lt-of-le, le-of-suc-le-suc}
-use Rattle.basics.specs.Choice.{ite, both}
-use Rattle.basics.proofs.Choices.{ite-true, ite-false}
+use native.Mathlib.{Nat.{not-suc-le-zero, eq-or-lt-of-le, le-of-suc-le-suc}, Numerals.add-one}
+use Rattle.basics.{proofs.Choices.{ite-true, ite-false}, specs.Choice.{ite, both}}
 use Rattle.channels.specs.Channels.{has}
-use Rattle.house.specs.declared.Network.{Network}
-use Rattle.house.specs.declared.Found.{Found}
-use Rattle.house.specs.Places.{channelOf, downAt}
-use Rattle.house.specs.Search.{nowhere, live, firstBelow, spotAt, ofPair, ofSender, firstIn}
+use Rattle.house.specs.{Places.{channelOf, downAt}, Search.{nowhere, live, firstBelow, spotAt, ofPair, ofSender, firstIn}}
+use Rattle.house.specs.declared.{Found.Found, Network.Network}
 
 -- ---- the first below a bound
 

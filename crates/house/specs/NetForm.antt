@@ -3,19 +3,14 @@
 -- and everything unused is zero."
 -- Assumes nothing.
 use Prim.Native.Nat.{ℕ, _+_}
-use mathlib.Core.Bool.{Bool, false, not}
-use mathlib.Core.List.{List}
-use lib.Dec.{leb, ltb, eqb}
-use lib.ListN.{getD}
-use Rattle.basics.specs.Choice.{ite, both}
-use Rattle.basics.specs.Below.{allBelow, countBelow}
-use Rattle.form.specs.declared.Tables.{Tables}
-use Rattle.form.specs.Form.{inForm}
+use mathlib.Core.{Bool.{Bool, false, not}, List.List}
+use lib.{Dec.{leb, ltb, eqb}, ListN.getD}
+use Rattle.basics.specs.{Below.{allBelow, countBelow}, Choice.{ite, both}}
+use Rattle.form.specs.{Form.inForm, declared.Tables.Tables}
 use Rattle.unused.specs.Unused.{unused}
 use Rattle.events.specs.Rules.{valueOf}
 use Rattle.channels.specs.Channels.{rowOk}
-use Rattle.house.specs.declared.Network.{Network}
-use Rattle.house.specs.Places.{tablesAt, rowAt, downAt, nOf, tOf, writerOf, initialOf}
+use Rattle.house.specs.{Places.{tablesAt, rowAt, downAt, nOf, tOf, writerOf, initialOf}, declared.Network.Network}
 
 -- m panels may be down at once
 unfoldable pub mayBeDown : ℕ → ℕ → Bool

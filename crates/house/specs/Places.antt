@@ -1,16 +1,12 @@
 -- What stands at a place of a network: panel j has place j - 1. Past the end stands zero.
 -- Assumes nothing.
 use Prim.Native.Nat.{ℕ}
-use mathlib.Core.Bool.{Bool, true, false}
-use mathlib.Core.List.{[]}
+use mathlib.Core.{Bool.{Bool, true, false}, List.[]}
 use lib.ListN.{getD, set}
-use Rattle.form.specs.declared.Operation.the-variants.{Idle}
-use Rattle.form.specs.declared.Tables.{Tables}
+use Rattle.form.specs.declared.{Operation.the-variants.Idle, Tables.Tables}
 use Rattle.events.specs.Rules.{valueOf}
 use Rattle.panel.specs.declared.Panel.{Panel}
-use Rattle.channels.specs.declared.Channel.{Channel}
-use Rattle.channels.specs.declared.Row.{Row}
-use Rattle.channels.specs.Channels.{noRow, channelAt}
+use Rattle.channels.specs.{Channels.{noRow, channelAt}, declared.Channel.Channel, declared.Row.Row}
 use Rattle.house.specs.declared.Network.{Network}
 
 abbrev pub nobody : Panel

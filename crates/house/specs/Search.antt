@@ -1,14 +1,10 @@
 -- "the first message in flight to a live panel, by sender, then receiver, then kind"
 -- Assumes nothing.
 use Prim.Native.Nat.{ℕ, zero, suc, _+_}
-use mathlib.Core.Bool.{Bool, true, false, not}
-use mathlib.Core.List.{List, []}
+use mathlib.Core.{Bool.{Bool, true, false, not}, List.{List, []}}
 use Rattle.basics.specs.Choice.{ite, both}
-use Rattle.channels.specs.declared.Row.{Row}
-use Rattle.channels.specs.Channels.{has}
-use Rattle.house.specs.declared.Network.{Network}
-use Rattle.house.specs.declared.Found.{Found}
-use Rattle.house.specs.Places.{channelOf, downAt}
+use Rattle.channels.specs.{Channels.has, declared.Row.Row}
+use Rattle.house.specs.{Places.{channelOf, downAt}, declared.Found.Found, declared.Network.Network}
 
 abbrev pub nowhere : Found
 nowhere = record { any = false; sender = 0; receiver = 0; kind = 0 }

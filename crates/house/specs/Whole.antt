@@ -5,8 +5,7 @@ use Prim.Native.Nat.{ℕ, _<_}
 use mathlib.Core.Path.{_≡_}
 use lib.ListN.{length}
 use Rattle.form.proofs.Shape.{Shaped}
-use Rattle.house.specs.declared.Network.{Network}
-use Rattle.house.specs.Places.{tablesAt, rowAt}
+use Rattle.house.specs.{Places.{tablesAt, rowAt}, declared.Network.Network}
 
 pub record Whole (s : Network) : Type 0 where
   pub panels-long : length (s .panels) ≡ 7

@@ -1,21 +1,13 @@
 -- What the call answers and leaves, case by case; and that the area then begins with the whole listing.
 -- Assumes nothing.
-use mathlib.Core.Path.{_≡_, refl, sym, ap, _∙_}
-use mathlib.Core.Bool.{Bool, true, false}
-use mathlib.Core.List.{List, _++_}
-use mathlib.Core.Logic.{_↔_}
+use mathlib.Core.{Bool.{Bool, true, false}, List.{List, _++_}, Logic._↔_, Path.{_≡_, refl, sym, ap, _∙_}}
 use Prim.Native.Nat.{ℕ, _≤_, _<_}
-use native.Mathlib.Nat.{zero-add}
-use native.Mathlib.Omega.{arith}
-use lib.Dec.{ltb}
-use lib.ListN.{length, drop}
-use lib.Seq.{sets, sets-eq}
+use native.Mathlib.{Nat.zero-add, Omega.arith}
+use lib.{Dec.ltb, ListN.{length, drop}, Seq.{sets, sets-eq}}
 use borrow.Author.Tests.{ltb-true, ltb-false, lt-ltb, le-ltb}
 use Rattle.basics.proofs.Choices.{ite-true, ite-false}
 use Rattle.text.specs.Text.{tooLong}
-use Rattle.listing.specs.declared.Listed.{Listed}
-use Rattle.listing.specs.Listing.{wholeText, listingOf, longest, Outcome, listing}
-use Rattle.listing.specs.Putting.{Put}
+use Rattle.listing.specs.{Listing.{wholeText, listingOf, longest, Outcome, listing}, Putting.Put, declared.Listed.Listed}
 
 -- ---- which text
 

@@ -1,48 +1,38 @@
 -- Computed: the description's listing, byte for byte; an empty input, and where the listing ends or goes on after a refusal.
 -- Assumes nothing.
-use mathlib.Core.Path.{_≡_, refl}
-use mathlib.Core.List.{List, [], _∷_, _++_, map}
+use mathlib.Core.{List.{List, [], _∷_, _++_, map}, Path.{_≡_, refl}}
 use Prim.Native.Nat.{ℕ}
-use Rattle.basics.specs.Choice.{ite, both}
-use Rattle.basics.specs.Below.{oneIf, allBelow, countBelow, listBelow}
-use Rattle.basics.specs.Refusal.{firstOf}
-use Rattle.codec.specs.Numbers.{numberAt}
-use Rattle.codec.specs.Items.{total, sizeOf, numbersAt, itemAt}
+use Rattle.basics.specs.{Below.{oneIf, allBelow, countBelow, listBelow}, Choice.{ite, both}, Refusal.firstOf}
+use Rattle.codec.specs.{Items.{total, sizeOf, numbersAt, itemAt}, Numbers.numberAt}
 use Rattle.schedule.specs.Records.{singles, carries, row, records, single, valueBehind, recordOf, refusing, answered, reading}
 use Rattle.text.specs.Text.{firstLine, dec, panelText, resultText, fields, spaced, lineText}
 use Rattle.text.specs.Text as text
 use Rattle.messages.specs.Sends.{castBelow, castOf, proceedsTo, messagesOf, noCast, noSends}
-use Rattle.tables.specs.Form.{entryOk, lineOk, holdOk, quietOk, unknownOk, historyOk}
-use Rattle.tables.specs.Lines.{leaving, without}
-use Rattle.tables.specs.Lines as lines
+use Rattle.tables.specs.{Form.{entryOk, lineOk, holdOk, quietOk, unknownOk, historyOk}, Lines.{leaving, without}}
 use Rattle.tables.specs.Marks.{hasW, reachesW, hasR, isOther, among, marks, onlyPlace, enough}
+use Rattle.tables.specs.Lines as lines
 use Rattle.form.specs.Form.{fits, isPanel, atWriter, operationOk, inForm, emptyLine, fresh}
 use Rattle.form.specs.Form as form
 use Rattle.unused.specs.Unused.{entryZero, valueZero, lineUnused, historyUnused, placeUnused, idle, unused}
 use Rattle.unused.specs.Unused as zero
 use Rattle.refusals.specs.Refusals.{isPeer, isIdle, rightBit, tooHigh, stray, lineFull, firstTrials, peerTrials, writeFromTrials, readFromTrials, proceedFromTrials, trials, refusal}
 use Rattle.refusals.specs.Refusals as panels
-use Rattle.events.specs.Asked.{snOf}
+use Rattle.events.specs.{Asked.snOf, Events.{rule, refusedBy, lookedAt, happens}, Look.{lookWriting, lookSecond, lookFirst, lookAs, look}}
 use Rattle.events.specs.Rules.{valueOf, learned, spread, writeRule, readRule, reached, take, takeHeld, released, takeRule, holdRule, readFromRule, proceedRule}
-use Rattle.events.specs.Look.{lookWriting, lookSecond, lookFirst, lookAs, look}
-use Rattle.events.specs.Events.{rule, refusedBy, lookedAt, happens}
 use Rattle.panel.specs.Calls.{nextOf, after, nothing, made}
 use Rattle.channels.specs.Channels.{byKind, inFlight, has, valueIn, room, less, slotOk, channelOk, channelEmpty, leads, rowPlaceOk, rowOk, emptyRow}
-use Rattle.channels.specs.Channels as channels
 use Rattle.channels.specs.Posting.{withChannel, fitsIn, post, posts, postedAll, taken}
+use Rattle.channels.specs.Channels as channels
 use Rattle.protocol.specs.Counts.{sumBelow, panelLoad, outLoad, load}
 use Rattle.promise.specs.View.{viewOf, codeOf}
 use Rattle.house.specs.NetForm.{mayBeDown, downsIn, memberWith, channelsOk, netForm}
-use Rattle.house.specs.NetForm as house
 use Rattle.house.specs.Search.{live, firstBelow, spotAt, ofPair, ofSender, firstIn}
+use Rattle.house.specs.NetForm as house
+use Rattle.steps.specs.{Drain.{nextIn, drainBy, drainIn, drained}, Numbers.loadOf, SetUp.{freshNetwork, setUp}}
 use Rattle.steps.specs.Steps.{tried, isPair, deliverTrials, loseTrials, settled, comes, writeIn, readIn, deliverIn, loseIn, checked}
 use Rattle.steps.specs.Steps as steps
-use Rattle.steps.specs.Numbers.{loadOf}
-use Rattle.steps.specs.Drain.{nextIn, drainBy, drainIn, drained}
-use Rattle.steps.specs.SetUp.{freshNetwork, setUp}
-use Rattle.listing.specs.Reads.{readsFrom, readsOf}
 use Rattle.listing.specs.Entries.{shownBy, tagOf, numberOf, entry, unread, told, deliveryOf, nextStep, deliveriesBy, drainEntries, stepped, entries, next, later, first, all}
-use Rattle.listing.specs.Listing.{textFrom, wholeText, listingOf}
+use Rattle.listing.specs.{Listing.{textFrom, wholeText, listingOf}, Reads.{readsFrom, readsOf}}
 
 -- the listing, computed
 shows : List ℕ → List ℕ

@@ -1,35 +1,22 @@
 -- How many lines a listing has after the first: at most one for each record and 16,800 for deliveries, which is what 200 writes and 100
 -- reads a panel come to among seven panels.
 -- Assumes nothing.
-use mathlib.Core.Path.{_≡_, sym, subst}
-use mathlib.Core.List.{List, [], _∷_, _++_}
+use mathlib.Core.{List.{List, [], _∷_, _++_}, Path.{_≡_, sym, subst}}
 use Prim.Native.Nat.{ℕ, zero, suc, _+_, _-_, _*_, _≤_}
-use native.Mathlib.Nat.{mul-le-mul}
-use native.Mathlib.Omega.{arith}
-use lib.Dec.{eqb}
-use lib.ListN.{length, length-append}
+use native.Mathlib.{Nat.mul-le-mul, Omega.arith}
+use lib.{Dec.eqb, ListN.{length, length-append}}
 use borrow.Author.Tests.{eq-eqb, eqb-true}
 use Rattle.basics.proofs.Choices.{ite-true, ite-case}
-use Rattle.schedule.specs.declared.Record.{Record}
-use Rattle.schedule.specs.declared.Read.{Read}
+use Rattle.schedule.specs.declared.{Read.Read, Record.Record}
 use Rattle.text.specs.declared.Line.{Line}
-use Rattle.protocol.specs.World.{R}
-use Rattle.protocol.specs.Counts.{begun}
-use Rattle.protocol.proofs.Sums.{sum-at-most}
-use Rattle.protocol.proofs.Deliveries.{made-most}
-use Rattle.house.specs.declared.Network.{Network}
-use Rattle.house.specs.Places.{nOf, writerOf}
-use Rattle.house.specs.Search.{firstIn}
-use Rattle.steps.specs.Numbers.{worldOf}
-use Rattle.steps.specs.Drain.{drained}
-use Rattle.steps.specs.SetUp.{setUp}
-use Rattle.steps.proofs.Networks.{writer-place, formed-place}
-use Rattle.runs.proofs.Holding.{Holds}
-use Rattle.runs.proofs.Draining.{drain-taken, drain-went}
-use Rattle.listing.specs.Reads.{readsOf}
+use Rattle.protocol.{proofs.Deliveries.made-most, proofs.Sums.sum-at-most, specs.Counts.begun, specs.World.R}
+use Rattle.house.specs.{Places.{nOf, writerOf}, Search.firstIn, declared.Network.Network}
+use Rattle.steps.{proofs.Networks.{writer-place, formed-place}, specs.Drain.drained, specs.Numbers.worldOf, specs.SetUp.setUp}
+use Rattle.runs.proofs.{Draining.{drain-taken, drain-went}, Holding.Holds}
 use Rattle.listing.specs.Entries.{entry, drain, nextStep, deliveriesBy, drainEntries, entries, next, later, first, all}
-use Rattle.listing.proofs.Reading.{reads-most}
+use Rattle.listing.specs.Reads.{readsOf}
 use Rattle.listing.proofs.Placing.{Placed, set-up, drains, steps, placed, madeIn, Keeps, stepped-keeps, set-up-holds}
+use Rattle.listing.proofs.Reading.{reads-most}
 
 -- ---- deliveries
 

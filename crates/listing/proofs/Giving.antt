@@ -1,41 +1,23 @@
 -- The bench, asked line by line, gives the listing's lines: what is left to give after a line is what was left before it, without that line.
 -- Assumes nothing.
-use mathlib.Core.Path.{_≡_, refl, sym, ap, ap₂, subst, _∙_}
-use mathlib.Core.Bool.{Bool, true, false}
-use mathlib.Core.List.{List, [], _∷_, _++_, append-assoc}
-use mathlib.Core.Logic.{_≢_}
+use mathlib.Core.{Bool.{Bool, true, false}, List.{List, [], _∷_, _++_, append-assoc}, Logic._≢_, Path.{_≡_, refl, sym, ap, ap₂, subst, _∙_}}
 use Prim.Native.Nat.{ℕ, _+_, _<_}
-use native.Mathlib.Decide.{ℕ-discrete}
-use native.Mathlib.Nat.{zero-add}
-use native.Mathlib.Numerals.{add-one}
-use native.Mathlib.Omega.{arith}
-use lib.Dec.{ltb, eqb}
-use lib.ListN.{length}
+use native.Mathlib.{Decide.ℕ-discrete, Nat.zero-add, Numerals.add-one, Omega.arith}
+use lib.{Dec.{ltb, eqb}, ListN.length}
 use borrow.Author.Tests.{ltb-true, ltb-false, eqb-true, eq-eqb, ne-eqb}
-use Rattle.basics.specs.Choice.{ite}
-use Rattle.basics.proofs.Choices.{ite-true, ite-false, ite-case, ite-two, clash}
-use Rattle.schedule.specs.declared.Record.{Record}
-use Rattle.schedule.specs.declared.Read.{Read}
-use Rattle.schedule.specs.Records.{reading}
+use Rattle.basics.{proofs.Choices.{ite-true, ite-false, ite-case, ite-two, clash}, specs.Choice.ite}
+use Rattle.schedule.specs.{Records.reading, declared.Read.Read, declared.Record.Record}
 use Rattle.text.specs.declared.Line.{Line}
-use Rattle.house.specs.declared.Network.{Network}
-use Rattle.house.specs.Search.{firstIn}
+use Rattle.house.specs.{Search.firstIn, declared.Network.Network}
+use Rattle.steps.proofs.{Networks.good-test, Settling.checked-in-form, WholeDrain.{sought-is, drained-none, drained-next}}
+use Rattle.steps.specs.{Drain.{drainedTo, nextIn, drained}, declared.Drained.Drained, declared.Ready.Ready, declared.Sought.Sought}
 use Rattle.steps.specs.declared.Stepped.{Stepped}
-use Rattle.steps.specs.declared.Sought.{Sought}
-use Rattle.steps.specs.declared.Drained.{Drained}
-use Rattle.steps.specs.declared.Ready.{Ready}
-use Rattle.steps.specs.Drain.{drainedTo, nextIn, drained}
-use Rattle.steps.proofs.Networks.{good-test}
-use Rattle.steps.proofs.Settling.{checked-in-form}
-use Rattle.steps.proofs.WholeDrain.{sought-is, drained-none, drained-next}
-use Rattle.runs.proofs.Holding.{Holds}
-use Rattle.runs.proofs.Accepting.{next-ok}
-use Rattle.runs.proofs.Draining.{drain-taken}
-use Rattle.listing.specs.Reads.{readsOf}
+use Rattle.runs.proofs.{Accepting.next-ok, Draining.drain-taken, Holding.Holds}
 use Rattle.listing.specs.Entries.{entry, unread, told, deliveryOf, nextStep, deliveriesBy, drain, drainEntries, stepped, entries, next, later, first, all}
 use Rattle.listing.specs.Machine.{Bench, silent, stops, goesOn, drains, drainStep, drainLine, recordLine, nextLine, firstRecord, madeBy, opened}
-use Rattle.listing.proofs.Reading.{readsAt, reads-end, reads-next, reads-last}
+use Rattle.listing.specs.Reads.{readsOf}
 use Rattle.listing.proofs.Placing.{Placed, placed, stepped-keeps, delivered-keeps, set-up-holds}
+use Rattle.listing.proofs.Reading.{readsAt, reads-end, reads-next, reads-last}
 use Rattle.listing.proofs.Placing as placing
 
 -- ---- what is left to give

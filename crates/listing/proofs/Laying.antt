@@ -1,20 +1,13 @@
 -- What is put into an area: bytes one behind the other, the first line, and a line of at most 34 bytes.
 -- Assumes nothing.
-use mathlib.Core.Path.{_≡_, sym, ap, subst, _∙_}
-use mathlib.Core.List.{List, [], _∷_}
+use mathlib.Core.{List.{List, [], _∷_}, Path.{_≡_, sym, ap, subst, _∙_}}
 use Prim.Native.Nat.{ℕ, _+_, _^_, _≤_, _<_}
-use native.Mathlib.Numerals.{add-one}
-use native.Mathlib.Omega.{arith}
-use lib.ListN.{length, getD, set, take, length-take}
-use lib.Seq.{sets, length-sets, take-suc, take-all}
+use native.Mathlib.{Numerals.add-one, Omega.arith}
+use lib.{ListN.{length, getD, set, take, length-take}, Seq.{sets, length-sets, take-suc, take-all}}
 use Rattle.basics.proofs.Lists.{sets-append}
-use Rattle.text.specs.declared.Line.{Line}
-use Rattle.text.specs.declared.Text.{Text}
-use Rattle.text.specs.Text.{firstLine, lineText, textOf}
-use Rattle.text.proofs.Appending.{text-shows, text-places}
-use Rattle.text.proofs.Lines.{ByteFields, line-most}
-use Rattle.listing.specs.Listing.{numberedAs}
-use Rattle.listing.specs.Putting.{Put}
+use Rattle.text.{proofs.Appending.{text-shows, text-places}, proofs.Lines.{ByteFields, line-most}, specs.Text.{firstLine, lineText, textOf}}
+use Rattle.text.specs.declared.{Line.Line, Text.Text}
+use Rattle.listing.specs.{Listing.numberedAs, Putting.Put}
 
 -- ---- bytes one behind the other
 

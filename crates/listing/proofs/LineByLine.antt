@@ -1,27 +1,17 @@
 -- The lines laid into the area one by one: what is laid and what is left is always the whole, and the numbers stay small.
 -- Assumes nothing.
-use mathlib.Core.Path.{_≡_, refl, sym, ap, ap₂, subst, _∙_}
-use mathlib.Core.Bool.{true, false}
-use mathlib.Core.List.{List, [], _∷_, _++_}
+use mathlib.Core.{Bool.{true, false}, List.{List, [], _∷_, _++_}, Path.{_≡_, refl, sym, ap, ap₂, subst, _∙_}}
 use Prim.Native.Nat.{ℕ, suc, _+_, _*_, _≤_, _<_}
-use native.Mathlib.Numerals.{add-one}
-use native.Mathlib.Omega.{arith}
-use lib.Dec.{ltb}
-use lib.ListN.{length, length-append}
-use lib.Seq.{sets}
-use Rattle.basics.proofs.Choices.{ite-true, ite-false, ite-case}
-use Rattle.basics.proofs.Lists.{sets-append}
-use Rattle.text.specs.declared.Line.{Line}
-use Rattle.text.specs.Text.{firstLine, lineText}
+use native.Mathlib.{Numerals.add-one, Omega.arith}
+use lib.{Dec.ltb, ListN.{length, length-append}, Seq.sets}
+use Rattle.basics.proofs.{Choices.{ite-true, ite-false, ite-case}, Lists.sets-append}
+use Rattle.text.specs.{Text.{firstLine, lineText}, declared.Line.Line}
 use Rattle.steps.specs.Search.{sought}
 use Rattle.runs.proofs.Holding.{Holds}
+use Rattle.listing.specs.{Entries.all, Listing.{numberedAs, textFrom, wholeText, longest}}
+use Rattle.listing.specs.{Machine.{Bench, drainStep, drainLine, recordLine, nextLine, firstRecord, opened}, Putting.Put}
 use Rattle.listing.specs.Reads.{readsOf}
-use Rattle.listing.specs.Entries.{all}
-use Rattle.listing.specs.Listing.{numberedAs, textFrom, wholeText, longest}
-use Rattle.listing.specs.Putting.{Put}
-use Rattle.listing.specs.Machine.{Bench, drainStep, drainLine, recordLine, nextLine, firstRecord, opened}
-use Rattle.listing.proofs.Counting.{lines-most}
-use Rattle.listing.proofs.Giving.{behind, left, Gives, next-gives, opened-gives}
+use Rattle.listing.proofs.{Counting.lines-most, Giving.{behind, left, Gives, next-gives, opened-gives}}
 
 -- how many deliveries are listed grows by one at most
 counted-next : (bytes : List ℕ) (b : Bench) → nextLine bytes b .count ≤ b .count + 1

@@ -1,30 +1,19 @@
 -- A record after the set-up is a second set-up, a drain or another step: its lines, and the network after it. What holds in every run
 -- from fresh is kept, and the deliveries made so far do not fall.
 -- Assumes nothing.
-use mathlib.Core.Path.{_≡_, sym, subst, _∙_}
-use mathlib.Core.List.{[], _∷_}
-use mathlib.Core.Logic.{_≢_}
+use mathlib.Core.{List.{[], _∷_}, Logic._≢_, Path.{_≡_, sym, subst, _∙_}}
 use Prim.Native.Nat.{ℕ, _-_, _≤_}
-use native.Mathlib.Decide.{ℕ-discrete}
-use native.Mathlib.Omega.{arith}
+use native.Mathlib.{Decide.ℕ-discrete, Omega.arith}
 use lib.Dec.{eqb}
 use borrow.Author.Tests.{eq-eqb, ne-eqb}
 use Rattle.basics.proofs.Choices.{ite-true, ite-false, ite-case}
 use Rattle.schedule.specs.declared.Record.{Record}
 use Rattle.protocol.specs.Counts.{made}
-use Rattle.house.specs.declared.Network.{Network}
-use Rattle.house.specs.Places.{nOf}
-use Rattle.steps.specs.declared.Stepped.{Stepped}
-use Rattle.steps.specs.Steps.{delivered}
-use Rattle.steps.specs.Numbers.{worldOf}
-use Rattle.steps.specs.Drain.{drained}
-use Rattle.steps.specs.SetUp.{setUp}
-use Rattle.steps.proofs.AtStart.{set-up-network, set-up-fits}
-use Rattle.runs.specs.Runs.{Step, did, does}
+use Rattle.house.specs.{Places.nOf, declared.Network.Network}
+use Rattle.steps.{proofs.AtStart.{set-up-network, set-up-fits}, specs.Drain.drained, specs.Numbers.worldOf, specs.SetUp.setUp}
+use Rattle.steps.specs.{Steps.delivered, declared.Stepped.Stepped}
+use Rattle.runs.{proofs.FromFresh.start-holds, proofs.Holding.{Holds, Went}, proofs.Running.step-fares, specs.Runs.{Step, did, does}}
 use Rattle.runs.specs.Runs.Step.{write, read, deliver, lose}
-use Rattle.runs.proofs.Holding.{Holds, Went}
-use Rattle.runs.proofs.Running.{step-fares}
-use Rattle.runs.proofs.FromFresh.{start-holds}
 use Rattle.listing.specs.Entries.{entry, told, drainEntries, stepped, entries, next}
 
 -- ---- its lines

@@ -1,21 +1,14 @@
 -- The records of a schedule from a place on: none at its end, else the one that stands there and, if it is accepted, those behind it.
 -- No more of them than bytes.
 -- Assumes nothing.
-use mathlib.Core.Path.{_≡_, refl, sym, ap, _∙_}
-use mathlib.Core.Bool.{Bool, true, false}
-use mathlib.Core.List.{List, [], _∷_}
+use mathlib.Core.{Bool.{Bool, true, false}, List.{List, [], _∷_}, Path.{_≡_, refl, sym, ap, _∙_}}
 use Prim.Native.Nat.{ℕ, zero, suc, _+_, _≤_, _<_}
-use native.Mathlib.Decide.{ℕ-discrete}
-use native.Mathlib.Omega.{arith}
-use lib.Dec.{ltb, eqb}
-use lib.ListN.{length}
+use native.Mathlib.{Decide.ℕ-discrete, Omega.arith}
+use lib.{Dec.{ltb, eqb}, ListN.length}
 use borrow.Author.Tests.{ltb-true, ltb-false, lt-ltb, le-ltb, eqb-true, eq-eqb, ne-eqb}
-use Rattle.basics.specs.Choice.{ite}
-use Rattle.basics.proofs.Choices.{ite-true, ite-false, ite-case}
+use Rattle.basics.{proofs.Choices.{ite-true, ite-false, ite-case}, specs.Choice.ite}
 use Rattle.codec.specs.Items.{sizeOf}
-use Rattle.schedule.specs.declared.Read.{Read}
-use Rattle.schedule.specs.Records.{refusing, reading}
-use Rattle.schedule.proofs.Laws.{accepted-iff, accepted-used, refused-shows}
+use Rattle.schedule.{proofs.Laws.{accepted-iff, accepted-used, refused-shows}, specs.Records.{refusing, reading}, specs.declared.Read.Read}
 use Rattle.listing.specs.Reads.{readsFrom}
 
 -- ---- one record

@@ -1,41 +1,23 @@
 -- The turns are the bench's: the step of a turn made in the network, the turn gives the bench's next line.
 -- Assumes nothing.
-use mathlib.Core.Path.{_≡_, refl, sym, ap, ap₂, _∙_}
-use mathlib.Core.Bool.{Bool, true, false}
-use mathlib.Core.List.{List}
-use mathlib.Core.Logic.{_≢_}
+use mathlib.Core.{Bool.{Bool, true, false}, List.List, Logic._≢_, Path.{_≡_, refl, sym, ap, ap₂, _∙_}}
 use Prim.Native.Nat.{ℕ, _+_}
 use native.Mathlib.Decide.{ℕ-discrete}
-use lib.Dec.{ltb, eqb}
-use lib.ListN.{length}
+use lib.{Dec.{ltb, eqb}, ListN.length}
 use borrow.Author.Tests.{eq-eqb, ne-eqb}
-use Rattle.basics.specs.Choice.{ite}
-use Rattle.basics.proofs.Choices.{ite-true, ite-two}
-use Rattle.schedule.specs.declared.Record.{Record}
-use Rattle.schedule.specs.declared.Read.{Read}
-use Rattle.schedule.specs.Records.{reading}
+use Rattle.basics.{proofs.Choices.{ite-true, ite-two}, specs.Choice.ite}
+use Rattle.schedule.specs.{Records.reading, declared.Read.Read, declared.Record.Record}
 use Rattle.events.specs.declared.Answer.the-variants.{Nothing}
+use Rattle.house.{proofs.Searching.by-flying, specs.Places.writerOf, specs.Search.{flying, firstIn}, specs.declared.Found.Found}
 use Rattle.house.specs.declared.Network.{Network}
-use Rattle.house.specs.declared.Found.{Found}
-use Rattle.house.specs.Places.{writerOf}
-use Rattle.house.specs.Search.{flying, firstIn}
-use Rattle.house.proofs.Searching.{by-flying}
-use Rattle.steps.specs.declared.Stepped.{Stepped}
-use Rattle.steps.specs.declared.Sought.{Sought}
-use Rattle.steps.specs.Steps.{delivered}
-use Rattle.steps.proofs.Networks.{Good, good-test}
-use Rattle.steps.proofs.Settling.{checked-in-form}
-use Rattle.steps.proofs.WholeDrain.{sought-is}
-use Rattle.parts.specs.declared.Step.{Step}
-use Rattle.parts.specs.declared.Moved.{Moved}
-use Rattle.parts.specs.Acting.{deliveryStep, actorOf, senderOf, moved}
-use Rattle.parts.specs.Steps.{partsAt, putBack, stepIn}
-use Rattle.parts.proofs.Back.{back, moved-back, still-back}
-use Rattle.listing.specs.declared.Stand.{Stand}
-use Rattle.listing.specs.declared.Turn.{Turn}
+use Rattle.steps.{proofs.Networks.{Good, good-test}, proofs.Settling.checked-in-form, proofs.WholeDrain.sought-is, specs.Steps.delivered}
+use Rattle.steps.specs.declared.{Sought.Sought, Stepped.Stepped}
+use Rattle.parts.{proofs.Back.{back, moved-back, still-back}, specs.Acting.{deliveryStep, actorOf, senderOf, moved}}
+use Rattle.parts.specs.{Steps.{partsAt, putBack, stepIn}, declared.Moved.Moved, declared.Step.Step}
 use Rattle.listing.specs.Entries.{entry, unread, told, drain, stepped}
 use Rattle.listing.specs.Machine.{Bench, noLine, drainStep, drainLine, recordLine, nextLine}
 use Rattle.listing.specs.Turning.{benchAt, noMore, lastLine, onward, midDrain, withLine, quiet, steps, stepOf, drainTurn, recordTurn, nextTurn, afterTurn}
+use Rattle.listing.specs.declared.{Stand.Stand, Turn.Turn}
 
 module _ (s : Network) where
   -- turn t gives the bench c

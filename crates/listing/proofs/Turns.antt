@@ -1,32 +1,21 @@
 -- One law for each case of the bench's next turn, as the code comes to it.
 -- Assumes nothing.
-use mathlib.Core.Path.{_≡_, sym, ap, ap₂, _∙_}
-use mathlib.Core.Bool.{true, false}
-use mathlib.Core.List.{List}
-use mathlib.Core.Logic.{_≢_}
+use mathlib.Core.{Bool.{true, false}, List.List, Logic._≢_, Path.{_≡_, sym, ap, ap₂, _∙_}}
 use Prim.Native.Nat.{ℕ, _+_, _-_, _≤_, _<_}
 use native.Mathlib.Omega.{arith}
-use lib.Dec.{leb}
-use lib.ListN.{length}
+use lib.{Dec.leb, ListN.length}
 use borrow.Author.Tests.{eq-eqb, ne-eqb, lt-ltb, le-ltb}
-use Rattle.basics.specs.Choice.{both}
-use Rattle.basics.proofs.Choices.{ite-true, ite-false}
-use Rattle.schedule.specs.declared.Record.{Record}
-use Rattle.schedule.specs.declared.Read.{Read}
-use Rattle.schedule.specs.Records.{reading}
+use Rattle.basics.{proofs.Choices.{ite-true, ite-false}, specs.Choice.both}
+use Rattle.schedule.specs.{Records.reading, declared.Read.Read, declared.Record.Record}
 use Rattle.text.specs.declared.Line.{Line}
 use Rattle.events.specs.declared.Answer.{Answer}
-use Rattle.house.specs.declared.Network.{Network}
-use Rattle.house.specs.declared.Found.{Found}
-use Rattle.house.specs.Search.{firstIn}
-use Rattle.house.proofs.Searching.{found}
+use Rattle.house.{proofs.Searching.found, specs.Search.firstIn, specs.declared.Found.Found, specs.declared.Network.Network}
 use Rattle.steps.specs.declared.Ready.{Ready}
 use Rattle.parts.specs.Acting.{deliveryStep, stepAt}
-use Rattle.listing.specs.declared.Stand.{Stand}
-use Rattle.listing.specs.declared.Turn.{Turn}
 use Rattle.listing.specs.Entries.{shownBy, entry, unread, told, deliveryOf, drain}
 use Rattle.listing.specs.Machine.{noLine, silent, stops, goesOn, firstRecord, madeBy, opened}
 use Rattle.listing.specs.Turning.{noMore, lastLine, onward, midDrain, withLine, quiet, steps, stepOf, drainTurn, recordTurn, nextTurn, afterTurn}
+use Rattle.listing.specs.declared.{Stand.Stand, Turn.Turn}
 
 -- ---- panel numbers shown
 

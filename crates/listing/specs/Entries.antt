@@ -6,18 +6,12 @@ use Prim.Native.Nat.{ℕ, zero, suc, _+_, _-_}
 use mathlib.Core.List.{List, [], _∷_, _++_}
 use lib.Dec.{leb, eqb}
 use Rattle.basics.specs.Choice.{ite, both}
-use Rattle.schedule.specs.declared.Record.{Record}
-use Rattle.schedule.specs.declared.Read.{Read}
+use Rattle.schedule.specs.declared.{Read.Read, Record.Record}
 use Rattle.text.specs.declared.Line.{Line}
-use Rattle.events.specs.declared.Answer.{Answer}
-use Rattle.events.specs.declared.Answer.the-variants.{Refused, Nothing, Wrote, Gave}
+use Rattle.events.specs.declared.Answer.{Answer, the-variants.{Refused, Nothing, Wrote, Gave}}
 use Rattle.promise.specs.View.{codeOf}
-use Rattle.house.specs.declared.Network.{Network}
-use Rattle.house.specs.Search.{firstIn}
-use Rattle.steps.specs.declared.Stepped.{Stepped}
-use Rattle.steps.specs.Steps.{written, begun, delivered, lost}
-use Rattle.steps.specs.Drain.{drained}
-use Rattle.steps.specs.SetUp.{setUp}
+use Rattle.house.specs.{Search.firstIn, declared.Network.Network}
+use Rattle.steps.specs.{Drain.drained, SetUp.setUp, Steps.{written, begun, delivered, lost}, declared.Stepped.Stepped}
 
 -- how many panel numbers a line of this kind shows
 unfoldable pub shownBy : ℕ → ℕ

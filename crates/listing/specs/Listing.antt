@@ -3,15 +3,10 @@
 -- Assumes nothing.
 use Prim.Native.Nat.{ℕ, suc, _+_, _*_}
 use mathlib.Core.List.{List, [], _∷_, _++_}
-use lib.Dec.{ltb}
-use lib.ListN.{length}
-use lib.Seq.{sets}
+use lib.{Dec.ltb, ListN.length, Seq.sets}
 use Rattle.basics.specs.Choice.{ite}
-use Rattle.text.specs.declared.Line.{Line}
-use Rattle.text.specs.Text.{firstLine, tooLong, lineText}
-use Rattle.listing.specs.declared.Listed.{Listed}
-use Rattle.listing.specs.Reads.{readsOf}
-use Rattle.listing.specs.Entries.{all}
+use Rattle.text.specs.{Text.{firstLine, tooLong, lineText}, declared.Line.Line}
+use Rattle.listing.specs.{Entries.all, Reads.readsOf, declared.Listed.Listed}
 
 abbrev pub numberedAs : ℕ → Line → Line
 numberedAs k l =

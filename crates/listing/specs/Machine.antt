@@ -2,21 +2,13 @@
 -- own. What it gives one after the other is the listing's lines (proofs/Giving).
 -- Assumes nothing.
 use Prim.Native.Nat.{ℕ, _+_}
-use mathlib.Core.Bool.{Bool, true, false}
-use mathlib.Core.List.{List}
-use lib.Dec.{ltb, eqb}
-use lib.ListN.{length}
+use mathlib.Core.{Bool.{Bool, true, false}, List.List}
+use lib.{Dec.{ltb, eqb}, ListN.length}
 use Rattle.basics.specs.Choice.{ite}
-use Rattle.schedule.specs.declared.Read.{Read}
-use Rattle.schedule.specs.Records.{reading}
+use Rattle.schedule.specs.{Records.reading, declared.Read.Read}
 use Rattle.text.specs.declared.Line.{Line}
-use Rattle.house.specs.declared.Network.{Network}
-use Rattle.house.specs.declared.Found.{Found}
-use Rattle.steps.specs.declared.Ready.{Ready}
-use Rattle.steps.specs.declared.Stepped.{Stepped}
-use Rattle.steps.specs.Steps.{delivered}
-use Rattle.steps.specs.Search.{sought}
-use Rattle.steps.specs.SetUp.{setUp}
+use Rattle.house.specs.declared.{Found.Found, Network.Network}
+use Rattle.steps.specs.{Search.sought, SetUp.setUp, Steps.delivered, declared.Ready.Ready, declared.Stepped.Stepped}
 use Rattle.listing.specs.Entries.{entry, unread, told, deliveryOf, drain, stepped}
 
 -- the bench has given a line, if there was one. It reads on at `at`, unless it has ended; while it drains, count is how many deliveries

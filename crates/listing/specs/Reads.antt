@@ -2,11 +2,9 @@
 -- Assumes nothing.
 use Prim.Native.Nat.{ℕ, zero, suc, _+_}
 use mathlib.Core.List.{List, [], _∷_}
-use lib.Dec.{ltb, eqb}
-use lib.ListN.{length}
+use lib.{Dec.{ltb, eqb}, ListN.length}
 use Rattle.basics.specs.Choice.{ite}
-use Rattle.schedule.specs.declared.Read.{Read}
-use Rattle.schedule.specs.Records.{reading}
+use Rattle.schedule.specs.{Records.reading, declared.Read.Read}
 
 -- from place `at` on, at most f records
 unfoldable pub readsFrom : ℕ → List ℕ → ℕ → List Read

@@ -2,24 +2,16 @@
 -- by the step alone. That the turns are the bench's (specs/Machine) is shown in proofs/Turned.
 -- Assumes nothing.
 use Prim.Native.Nat.{ℕ, _+_, _-_}
-use mathlib.Core.Bool.{true, false}
-use mathlib.Core.List.{List}
-use lib.Dec.{ltb, eqb}
-use lib.ListN.{length}
+use mathlib.Core.{Bool.{true, false}, List.List}
+use lib.{Dec.{ltb, eqb}, ListN.length}
 use Rattle.basics.specs.Choice.{ite}
-use Rattle.schedule.specs.declared.Record.{Record}
-use Rattle.schedule.specs.declared.Read.{Read}
-use Rattle.schedule.specs.Records.{reading}
+use Rattle.schedule.specs.{Records.reading, declared.Read.Read, declared.Record.Record}
 use Rattle.text.specs.declared.Line.{Line}
 use Rattle.events.specs.declared.Answer.{Answer}
-use Rattle.house.specs.declared.Network.{Network}
-use Rattle.house.specs.declared.Found.{Found}
-use Rattle.parts.specs.declared.Step.{Step}
-use Rattle.parts.specs.Acting.{deliveryStep, stepAt}
-use Rattle.listing.specs.declared.Stand.{Stand}
+use Rattle.house.specs.declared.{Found.Found, Network.Network}
+use Rattle.parts.specs.{Acting.{deliveryStep, stepAt}, declared.Step.Step}
+use Rattle.listing.specs.{Entries.{entry, unread, told, deliveryOf, drain}, Machine.{Bench, noLine}, declared.Stand.Stand}
 use Rattle.listing.specs.declared.Turn.{Turn}
-use Rattle.listing.specs.Entries.{entry, unread, told, deliveryOf, drain}
-use Rattle.listing.specs.Machine.{Bench, noLine}
 
 abbrev pub benchAt : Network → Stand → Bench
 benchAt s b =

@@ -1,12 +1,9 @@
 -- One event, computed: WRITE1 with 650 to panels 2 and 5, a held WRITE0 with 7 to panel 1, two PROCEEDs to panel 4.
 -- Assumes nothing.
-use mathlib.Core.Path.{_≡_, refl}
-use mathlib.Core.Bool.{true, false}
-use mathlib.Core.List.{List, [], _∷_}
+use mathlib.Core.{Bool.{true, false}, List.{List, [], _∷_}, Path.{_≡_, refl}}
 use Rattle.basics.specs.Choice.{ite}
+use Rattle.messages.specs.{Area.{Area, laid, laidIn, roomOf, laying}, Sends.{Message, castBelow, castOf, proceedsTo, messagesOf}}
 use Rattle.messages.specs.declared.Sends.{Sends}
-use Rattle.messages.specs.Sends.{Message, castBelow, castOf, proceedsTo, messagesOf}
-use Rattle.messages.specs.Area.{Area, laid, laidIn, roomOf, laying}
 
 event : Sends
 event =

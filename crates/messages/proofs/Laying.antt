@@ -2,18 +2,14 @@
 -- that messages laid behind messages are the two lists laid as one (`further-none`, `further-then`), by which the code
 -- goes.
 -- Assumes nothing.
-use mathlib.Core.Path.{_≡_, refl, sym, ap, ap₂, subst, _∙_}
-use mathlib.Core.Logic.{_⊎_, inl, inr}
-use mathlib.Core.List.{List, [], _∷_, _++_, map, map-append}
+use mathlib.Core.{List.{List, [], _∷_, _++_, map, map-append}, Logic.{_⊎_, inl, inr}, Path.{_≡_, refl, sym, ap, ap₂, subst, _∙_}}
 use Prim.Native.Nat.{ℕ, zero, suc, _+_, _≤_, _<_}
-use native.Mathlib.Nat.{add-zero, zero-add, not-suc-le-zero}
-use native.Mathlib.Omega.{arith}
+use native.Mathlib.{Nat.{add-zero, zero-add, not-suc-le-zero}, Omega.arith}
 use lib.ListN.{length, getD, set, take, drop, length-set, length-append, length-map, List·getD-map}
 use lib.Seq.{sets, sets-eq, length-sets, getD-set-same, getD-set-other}
 use Rattle.basics.proofs.Lists.{sets-append}
+use Rattle.messages.specs.{Area.{Area, Laid, laid, Further, laidIn, roomOf, laying}, Sends.{Message, messagesOf}}
 use Rattle.messages.specs.declared.Sends.{Sends}
-use Rattle.messages.specs.Sends.{Message, messagesOf}
-use Rattle.messages.specs.Area.{Area, Laid, laid, Further, laidIn, roomOf, laying}
 
 -- ---- a list of numbers
 

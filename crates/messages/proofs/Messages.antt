@@ -1,23 +1,14 @@
 -- The laws of the list that one event sends: how many messages it has, which they are, and in which order.
 -- Assumes nothing.
-use mathlib.Core.Path.{_≡_, refl, sym, ap, ap₂, subst, _∙_}
 use mathlib.Core.Bool.{Bool, true, false}
-use mathlib.Core.Logic.{_⊎_, inl, inr}
 use mathlib.Core.List.{List, [], _∷_, _++_, map-append, append-nil, List·Memᴰ, List·Memᴰ·head, List·Memᴰ·tail, List·Memᴰ·not-nil, List·Memᴰ·append-cases, List·Memᴰ·eq-of-singleton, Memᴰ·append-left, Memᴰ·append-right}
+use mathlib.Core.{Logic.{_⊎_, inl, inr}, Path.{_≡_, refl, sym, ap, ap₂, subst, _∙_}}
 use Prim.Native.Nat.{ℕ, zero, suc, _+_, _≤_, _<_}
-use native.Mathlib.Nat.{not-suc-le-zero}
-use native.Mathlib.Numerals.{add-one}
-use native.Mathlib.Omega.{arith}
-use lib.ListN.{length, getD, length-append, List·getD-append, List·getD-map, length-map}
-use lib.Seq.{getD-at}
-use Rattle.basics.specs.Choice.{ite}
-use Rattle.basics.specs.Below.{oneIf, countBelow}
-use Rattle.basics.proofs.Choices.{ite-true}
-use Rattle.basics.proofs.Below.{last-or-below, count-most}
-use Rattle.messages.specs.declared.Cast.{Cast}
-use Rattle.messages.specs.declared.Sends.{Sends}
-use Rattle.messages.specs.Sends.{Message, castBelow, castOf, proceedsTo, messagesOf, noCast, noSends}
-use Rattle.messages.specs.Area.{receiversOf}
+use native.Mathlib.{Nat.not-suc-le-zero, Numerals.add-one, Omega.arith}
+use lib.{ListN.{length, getD, length-append, List·getD-append, List·getD-map, length-map}, Seq.getD-at}
+use Rattle.basics.{proofs.Below.{last-or-below, count-most}, proofs.Choices.ite-true, specs.Below.{oneIf, countBelow}, specs.Choice.ite}
+use Rattle.messages.specs.{Area.receiversOf, Sends.{Message, castBelow, castOf, proceedsTo, messagesOf, noCast, noSends}}
+use Rattle.messages.specs.declared.{Cast.Cast, Sends.Sends}
 
 -- ---- nothing sent
 

@@ -2,11 +2,9 @@
 -- unchanged".
 -- Assumes nothing.
 use Prim.Native.Nat.{ℕ, suc, min, _+_}
-use mathlib.Core.Path.{_≡_}
-use mathlib.Core.List.{List, [], _∷_, map}
+use mathlib.Core.{List.{List, [], _∷_, map}, Path._≡_}
 use lib.ListN.{length, set}
-use Rattle.messages.specs.declared.Sends.{Sends}
-use Rattle.messages.specs.Sends.{Message, messagesOf}
+use Rattle.messages.specs.{Sends.{Message, messagesOf}, declared.Sends.Sends}
 
 pub record Area : Type 0 where
   pub receivers : List ℕ

@@ -2,12 +2,10 @@
 -- PROCEEDs". A message is "a receiver, a kind and a value (zero for READ and PROCEED)".
 -- Assumes nothing.
 use Prim.Native.Nat.{ℕ, zero, suc, _+_}
-use mathlib.Core.Bool.{false}
-use mathlib.Core.List.{List, [], _∷_, _++_}
+use mathlib.Core.{Bool.false, List.{List, [], _∷_, _++_}}
 use lib.ListN.{getD, replicate}
 use Rattle.basics.specs.Choice.{ite}
-use Rattle.messages.specs.declared.Cast.{Cast}
-use Rattle.messages.specs.declared.Sends.{Sends}
+use Rattle.messages.specs.declared.{Cast.Cast, Sends.Sends}
 
 pub record Message : Type 0 where
   pub to : ℕ

@@ -3,8 +3,7 @@
 use Prim.Native.Nat.{ℕ, _+_}
 use mathlib.Core.List.{List, [], _∷_}
 use lib.Dec.{eqb}
-use Rattle.basics.specs.Choice.{both}
-use Rattle.basics.specs.Below.{oneIf}
+use Rattle.basics.specs.{Below.oneIf, Choice.both}
 use Rattle.messages.specs.Sends.{Message}
 
 unfoldable pub tally : List Message → ℕ → ℕ → ℕ

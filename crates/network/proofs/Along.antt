@@ -1,22 +1,12 @@
 -- Along a drain: the network that it has come to stays good, the deliveries stay few, and what is left to do is the whole drain.
 -- Assumes nothing.
-use mathlib.Core.Path.{_≡_, refl, sym, ap, subst, _∙_}
-use mathlib.Core.Bool.{true, false}
-use mathlib.Core.Logic.{_≢_}
+use mathlib.Core.{Bool.{true, false}, Logic._≢_, Path.{_≡_, refl, sym, ap, subst, _∙_}}
 use Prim.Native.Nat.{ℕ, suc, _+_, _≤_, _<_}
 use native.Mathlib.Omega.{arith}
 use Rattle.promise.specs.View.{codeOf}
-use Rattle.house.specs.declared.Network.{Network}
-use Rattle.house.specs.declared.Found.{Found}
-use Rattle.house.specs.NetForm.{netForm}
-use Rattle.house.specs.Search.{firstIn}
-use Rattle.house.specs.Whole.{Whole}
-use Rattle.steps.specs.declared.Stepped.{Stepped}
-use Rattle.steps.specs.Steps.{deliverIn}
-use Rattle.steps.specs.Numbers.{loadOf}
-use Rattle.steps.specs.Drain.{drainedTo, nextIn, drainBy, drainIn}
-use Rattle.steps.proofs.Networks.{Good, good-of, few-loads}
-use Rattle.steps.proofs.Draining.{next-kept, next-falls, drain-done, drain-step, drain-refused}
+use Rattle.house.specs.{NetForm.netForm, Search.firstIn, Whole.Whole, declared.Found.Found, declared.Network.Network}
+use Rattle.steps.proofs.{Draining.{next-kept, next-falls, drain-done, drain-step, drain-refused}, Networks.{Good, good-of, few-loads}}
+use Rattle.steps.specs.{Drain.{drainedTo, nextIn, drainBy, drainIn}, Numbers.loadOf, Steps.deliverIn, declared.Stepped.Stepped}
 
 -- a drain of s₀ that has come to s by m deliveries
 pub record Along (s₀ s : Network) (m : ℕ) : Type 0 where

@@ -1,15 +1,11 @@
 -- A step by what it is, as the calls name it.
 -- Assumes nothing.
-use mathlib.Core.Path.{_≡_, refl, ap, _∙_}
+use mathlib.Core.Path.{_≡_, ap, _∙_}
 use Prim.Native.Nat.{ℕ}
-use lib.Dec.{eqb}
 use Rattle.basics.specs.Choice.{ite}
 use Rattle.house.specs.declared.Network.{Network}
-use Rattle.steps.specs.declared.Stepped.{Stepped}
-use Rattle.steps.specs.Steps.{writeIn, readIn, deliverIn, loseIn}
-use Rattle.parts.specs.declared.Step.{Step}
-use Rattle.parts.specs.Acting.{deliveryStep, stepAt}
-use Rattle.parts.specs.Steps.{stepIn}
+use Rattle.steps.specs.{Steps.{writeIn, readIn, deliverIn, loseIn}, declared.Stepped.Stepped}
+use Rattle.parts.specs.{Acting.{deliveryStep, stepAt}, Steps.stepIn, declared.Step.Step}
 
 module _ (s : Network) {m : Step} {a : Stepped} (is : a ≡ stepIn s m) where
   named : {m′ : Step} → m ≡ m′ → a ≡ stepIn s m′

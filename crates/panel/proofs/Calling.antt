@@ -1,17 +1,13 @@
 -- What a panel's calls come to, for their code and for what is set up by them.
 -- Assumes nothing.
-use mathlib.Core.Path.{_≡_, refl, ap, _∙_}
-use mathlib.Core.Bool.{true, false}
+use mathlib.Core.{Bool.{true, false}, Path.{_≡_, refl, ap, _∙_}}
 use Prim.Native.Nat.{ℕ}
 use Rattle.basics.proofs.Choices.{ite-true, ite-false}
 use Rattle.messages.specs.Area.{Area, Laid, laying, roomOf}
 use Rattle.form.specs.Form.{fits, isPanel, fresh}
 use Rattle.refusals.specs.Refusals.{Event}
-use Rattle.events.specs.declared.Done.{Done}
-use Rattle.events.specs.Events.{happens}
-use Rattle.panel.specs.declared.Panel.{Panel}
-use Rattle.panel.specs.declared.Next.{Next}
-use Rattle.panel.specs.Calls.{Called, panelOf, nextOf, after, told, called, nothing, made}
+use Rattle.events.specs.{Events.happens, declared.Done.Done}
+use Rattle.panel.specs.{Calls.{Called, panelOf, nextOf, after, told, called, nothing, made}, declared.Next.Next, declared.Panel.Panel}
 
 pub told-as :
     (d : Done) (a : Area) (laid : Laid) → laid ≡ laying (d .sends) a →

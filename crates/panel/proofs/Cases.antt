@@ -1,9 +1,7 @@
 -- The description's cases for set-up, computed on the definitions: P "n=7, t=3 taken", P "n=6, t=3 refused 1", and the other sides
 -- of the same line.
 -- Assumes nothing.
-use Prim.Native.Nat.{ℕ}
-use mathlib.Core.Path.{_≡_, refl}
-use mathlib.Core.List.{List, [], _∷_}
+use mathlib.Core.{List.{[], _∷_}, Path.{_≡_, refl}}
 use Rattle.basics.specs.Choice.{ite, both}
 use Rattle.form.specs.Form.{fits, isPanel, emptyLine, fresh}
 use Rattle.panel.specs.Calls.{nothing, made}

@@ -4,17 +4,11 @@
 use Prim.Native.Nat.{ℕ}
 use lib.ListN.{length}
 use Rattle.basics.specs.Choice.{ite}
-use Rattle.messages.specs.Sends.{messagesOf}
-use Rattle.messages.specs.Area.{Area, laidIn, roomOf}
-use Rattle.form.specs.declared.Tables.{Tables}
-use Rattle.form.specs.Form.{fits, isPanel, fresh}
+use Rattle.messages.specs.{Area.{Area, laidIn, roomOf}, Sends.messagesOf}
+use Rattle.form.specs.{Form.{fits, isPanel, fresh}, declared.Tables.Tables}
 use Rattle.refusals.specs.Refusals.{Event}
-use Rattle.events.specs.declared.Done.{Done}
-use Rattle.events.specs.Events.{happens}
-use Rattle.panel.specs.declared.Panel.{Panel}
-use Rattle.panel.specs.declared.Next.{Next}
-use Rattle.panel.specs.declared.Outcome.{Outcome}
-use Rattle.panel.specs.declared.Made.{Made}
+use Rattle.events.specs.{Events.happens, declared.Done.Done}
+use Rattle.panel.specs.declared.{Made.Made, Next.Next, Outcome.Outcome, Panel.Panel}
 
 abbrev pub panelOf : Tables → Panel
 panelOf t = record { tables = t }

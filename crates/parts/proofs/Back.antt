@@ -1,38 +1,22 @@
 -- A step on the parts of a network in form, put back, is the network's step.
 -- Assumes nothing.
-use mathlib.Core.Path.{_≡_, refl, sym, ap, ap₂, subst, _∙_}
-use mathlib.Core.Bool.{Bool, true, false}
-use mathlib.Core.List.{List}
-use mathlib.Core.Logic.{_≢_}
+use mathlib.Core.{Bool.{Bool, true, false}, List.List, Logic._≢_, Path.{_≡_, refl, sym, ap, ap₂, subst, _∙_}}
 use Prim.Native.Nat.{ℕ, _-_, _≤_}
 use native.Mathlib.Omega.{arith}
-use lib.Dec.{eqb}
-use lib.ListN.{getD, set}
-use lib.Seq.{set-getD, getD-set-other}
+use lib.{Dec.eqb, ListN.{getD, set}, Seq.{set-getD, getD-set-other}}
 use borrow.Author.Tests.{eqb-true, le-leb}
-use Rattle.basics.specs.Choice.{ite}
-use Rattle.basics.specs.Refusal.{Trial, firstOf}
-use Rattle.basics.proofs.Choices.{ite-true, ite-false, ite-two}
+use Rattle.basics.{proofs.Choices.{ite-true, ite-false, ite-two}, specs.Choice.ite, specs.Refusal.{Trial, firstOf}}
 use Rattle.refusals.specs.Refusals.Event.{read}
 use Rattle.events.specs.declared.Answer.the-variants.{Nothing}
-use Rattle.panel.specs.declared.Panel.{Panel}
-use Rattle.panel.specs.declared.Next.{Next}
-use Rattle.panel.specs.Calls.{after}
-use Rattle.channels.specs.declared.Row.{Row}
-use Rattle.channels.specs.Channels.{noRow, valueIn}
-use Rattle.channels.specs.Posting.{postedAll, taken}
-use Rattle.house.specs.declared.Network.{Network}
-use Rattle.house.specs.Places.{nobody, panelAt, rowAt, channelOf, nOf, writerOf, withRow}
-use Rattle.house.specs.NetForm.{netForm}
-use Rattle.house.proofs.NetForms.{form-view, writer-high}
+use Rattle.panel.specs.{Calls.after, declared.Next.Next, declared.Panel.Panel}
+use Rattle.channels.specs.{Channels.{noRow, valueIn}, Posting.{postedAll, taken}, declared.Row.Row}
+use Rattle.house.{proofs.NetForms.{form-view, writer-high}, specs.NetForm.netForm}
+use Rattle.house.specs.{Places.{nobody, panelAt, rowAt, channelOf, nOf, writerOf, withRow}, declared.Network.Network}
+use Rattle.steps.{proofs.Passing.{pair-iff, places-apart, may-read}, specs.Steps.{isPair, comes, writeIn, readIn, deliverIn, loseIn}}
 use Rattle.steps.specs.declared.Stepped.{Stepped}
 use Rattle.steps.specs.Steps as steps
-use Rattle.steps.specs.Steps.{isPair, comes, writeIn, readIn, deliverIn, loseIn}
-use Rattle.steps.proofs.Passing.{pair-iff, places-apart, may-read}
-use Rattle.parts.specs.declared.Step.{Step}
-use Rattle.parts.specs.declared.Moved.{Moved}
 use Rattle.parts.specs.Acting.{placeWithin, actorOf, senderOf, withFrom, withTaken, refusedBy, tried, writeTrials, readTrials, deliverTrials, loseTrials, settled, written, begun, delivered, lost, moved}
-use Rattle.parts.specs.Steps.{partsAt, putBack, movedIn, stepIn}
+use Rattle.parts.specs.{Steps.{partsAt, putBack, movedIn, stepIn}, declared.Moved.Moved, declared.Step.Step}
 
 -- what a step on the parts at places i and j comes to, put back
 abbrev pub back : Network → ℕ → ℕ → Moved → Stepped

@@ -1,32 +1,21 @@
 -- What each step comes to, refusal by refusal in the order in which they are tried: for the code's returns, which know of each test on
 -- the way what it asks and how it came out.
 -- Assumes nothing.
-use mathlib.Core.Path.{_≡_, refl, sym, ap, _∙_}
-use mathlib.Core.Bool.{Bool, true, false, not}
-use mathlib.Core.Logic.{_≢_}
+use mathlib.Core.{Bool.{Bool, true, false, not}, Logic._≢_, Path.{_≡_, refl, sym, ap, _∙_}}
 use Prim.Native.Nat.{ℕ, _+_, _-_}
 use lib.Dec.{eqb}
 use borrow.Author.Tests.{eq-eqb, ne-eqb, not-true, not-false}
-use Rattle.basics.specs.Choice.{ite}
-use Rattle.basics.specs.Refusal.{firstOf}
-use Rattle.basics.proofs.Choices.{ite-true, ite-false, ite-case}
+use Rattle.basics.{proofs.Choices.{ite-true, ite-false, ite-case}, specs.Choice.ite, specs.Refusal.firstOf}
 use Rattle.form.specs.Form.{isPanel}
-use Rattle.refusals.specs.Refusals.{Event}
-use Rattle.refusals.specs.Refusals.Event.{write, read, writeFrom, readFrom, proceedFrom}
+use Rattle.refusals.specs.Refusals.{Event, Event.{write, read, writeFrom, readFrom, proceedFrom}}
 use Rattle.events.specs.declared.Answer.the-variants.{Nothing}
-use Rattle.panel.specs.declared.Next.{Next}
-use Rattle.panel.specs.Calls.{after}
+use Rattle.panel.specs.{Calls.after, declared.Next.Next}
 use Rattle.promise.specs.View.{codeOf}
-use Rattle.channels.specs.declared.Channel.{Channel}
-use Rattle.channels.specs.declared.Posted.{Posted}
-use Rattle.channels.specs.Channels.{byKind, has, valueIn, channelAt}
-use Rattle.channels.specs.Posting.{postedAll}
+use Rattle.channels.specs.{Channels.{byKind, has, valueIn, channelAt}, Posting.postedAll, declared.Channel.Channel, declared.Posted.Posted}
 use Rattle.house.specs.NetForm.{mayBeDown, downsIn}
 use Rattle.steps.specs.Steps.{isPair, comes}
-use Rattle.parts.specs.declared.Parts.{Parts}
-use Rattle.parts.specs.declared.Step.{Step}
-use Rattle.parts.specs.declared.Moved.{Moved}
 use Rattle.parts.specs.Acting.{withTaken, withActor, withDown, refusedBy, tried, isDown, writeTrials, readTrials, deliverTrials, loseTrials, settled, written, begun, delivered, lost, moved}
+use Rattle.parts.specs.declared.{Parts.Parts, Step.Step}
 
 -- ---- a test that came out so, by what it asks
 

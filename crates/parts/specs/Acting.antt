@@ -2,28 +2,18 @@
 -- That these are the network's own steps is shown in proofs/Back.
 -- Assumes nothing.
 use Prim.Native.Nat.{ℕ, _+_, _-_}
-use mathlib.Core.Bool.{Bool, true, false, not}
-use mathlib.Core.List.{List, [], _∷_}
-use lib.Dec.{leb, eqb}
-use lib.ListN.{getD, set}
-use Rattle.basics.specs.Choice.{ite}
-use Rattle.basics.specs.Refusal.{Trial, refuse, firstOf}
+use mathlib.Core.{Bool.{Bool, true, false, not}, List.{List, [], _∷_}}
+use lib.{Dec.{leb, eqb}, ListN.{getD, set}}
+use Rattle.basics.specs.{Choice.ite, Refusal.{Trial, refuse, firstOf}}
 use Rattle.form.specs.Form.{isPanel}
 use Rattle.refusals.specs.Refusals.Event.{write, read}
 use Rattle.events.specs.declared.Answer.the-variants.{Refused, Nothing}
-use Rattle.panel.specs.declared.Panel.{Panel}
-use Rattle.panel.specs.declared.Next.{Next}
-use Rattle.panel.specs.Calls.{after}
+use Rattle.panel.specs.{Calls.after, declared.Next.Next, declared.Panel.Panel}
 use Rattle.promise.specs.View.{codeOf}
-use Rattle.channels.specs.declared.Posted.{Posted}
-use Rattle.channels.specs.declared.Row.{Row}
-use Rattle.channels.specs.Channels.{has, valueIn, channelAt}
-use Rattle.channels.specs.Posting.{postedAll, taken}
+use Rattle.channels.specs.{Channels.{has, valueIn, channelAt}, Posting.{postedAll, taken}, declared.Posted.Posted, declared.Row.Row}
 use Rattle.house.specs.NetForm.{mayBeDown, downsIn}
 use Rattle.steps.specs.Steps.{isPair, comes}
-use Rattle.parts.specs.declared.Step.{Step}
-use Rattle.parts.specs.declared.Parts.{Parts}
-use Rattle.parts.specs.declared.Moved.{Moved}
+use Rattle.parts.specs.declared.{Moved.Moved, Parts.Parts, Step.Step}
 
 -- ---- steps
 

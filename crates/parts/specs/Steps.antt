@@ -1,18 +1,12 @@
 -- A network's parts, taken out and put back, and its steps by what they are.
 -- Assumes nothing.
 use Prim.Native.Nat.{ℕ}
-use lib.Dec.{eqb}
-use lib.ListN.{set}
+use lib.{Dec.eqb, ListN.set}
 use Rattle.basics.specs.Choice.{ite}
 use Rattle.events.specs.declared.Answer.the-variants.{Nothing}
-use Rattle.house.specs.declared.Network.{Network}
-use Rattle.house.specs.Places.{panelAt, rowAt, nOf, tOf, writerOf}
-use Rattle.steps.specs.declared.Stepped.{Stepped}
-use Rattle.steps.specs.Steps.{writeIn, readIn, deliverIn, loseIn}
-use Rattle.parts.specs.declared.Step.{Step}
-use Rattle.parts.specs.declared.Parts.{Parts}
-use Rattle.parts.specs.declared.Moved.{Moved}
-use Rattle.parts.specs.Acting.{actorOf, senderOf, moved}
+use Rattle.house.specs.{Places.{panelAt, rowAt, nOf, tOf, writerOf}, declared.Network.Network}
+use Rattle.steps.specs.{Steps.{writeIn, readIn, deliverIn, loseIn}, declared.Stepped.Stepped}
+use Rattle.parts.specs.{Acting.{actorOf, senderOf, moved}, declared.Moved.Moved, declared.Parts.Parts, declared.Step.Step}
 
 -- the parts of s for a step from place i at place j
 abbrev pub partsAt : Network → ℕ → ℕ → Parts

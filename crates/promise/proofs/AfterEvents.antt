@@ -1,20 +1,15 @@
 -- The promise of a panel, as the panel's calls without a message area tell it: what a network lives on.
 -- Assumes nothing.
-use mathlib.Core.Path.{_≡_}
-use mathlib.Core.Bool.{Bool, true, false}
+use mathlib.Core.{Bool.{Bool, true, false}, Path._≡_}
 use Prim.Native.Nat.{ℕ, _-_}
 use Rattle.messages.specs.Sends.{messagesOf}
 use Rattle.form.specs.Setting.{ownPlace}
-use Rattle.refusals.specs.Refusals.{Event, rightBit, refusal}
-use Rattle.refusals.specs.Refusals.Event.{write, read, writeFrom, readFrom, proceedFrom}
+use Rattle.refusals.specs.Refusals.{Event, rightBit, refusal, Event.{write, read, writeFrom, readFrom, proceedFrom}}
 use Rattle.events.proofs.Kept.{Good, kept}
-use Rattle.panel.specs.declared.Panel.{Panel}
-use Rattle.panel.specs.Calls.{nextOf, after}
+use Rattle.panel.specs.{Calls.{nextOf, after}, declared.Panel.Panel}
 use Rattle.protocol.specs.Promise.{ToPeers, Writes, Reads, WriteComes, WriteWaits, ReadComes, ProceedComes}
-use Rattle.promise.specs.View.{viewOf, outOf, codeOf, Waits}
-use Rattle.promise.specs.Facts.{SameSetting, AllTo}
-use Rattle.promise.proofs.Receivers.{out-peers}
-use Rattle.promise.proofs.Settings.{setting-kept}
+use Rattle.promise.specs.{Facts.{SameSetting, AllTo}, View.{viewOf, outOf, codeOf, Waits}}
+use Rattle.promise.proofs.{Receivers.out-peers, Settings.setting-kept}
 use Rattle.promise.proofs.Happenings
 
 module _ (p : Panel) (e : Event) where

@@ -1,24 +1,15 @@
 -- What the look at the operation leaves: nothing but the operation changes, it refuses nothing, and an operation that stays open has
 -- its wait still to be met.
 -- Assumes nothing.
-use mathlib.Core.Path.{_≡_, refl, sym, subst}
-use mathlib.Core.Bool.{Bool, true}
+use mathlib.Core.{Bool.{Bool, true}, Path.{_≡_, refl, sym, subst}}
 use Prim.Native.Nat.{ℕ, _≤_, _<_}
 use native.Mathlib.Omega.{arith}
 use borrow.Author.Tests.{eq-eqb, le-leb, leb-true}
 use Rattle.basics.proofs.Choices.{clash, ite-case, both-right}
-use Rattle.tables.specs.declared.WriteNo.{WriteNo}
-use Rattle.tables.specs.Places.{wAt}
-use Rattle.tables.specs.Marks.{hasW, reachesW, hasR, enough}
-use Rattle.tables.proofs.Quorum.{enough-more}
-use Rattle.form.specs.declared.Operation.{Operation}
-use Rattle.form.specs.declared.Operation.the-variants.{Idle, Writing, FirstWait, SecondWait}
-use Rattle.form.specs.declared.Tables.{Tables}
-use Rattle.form.specs.Setting.{ownPlace, ownW, ownR, setOperation}
-use Rattle.form.specs.Form.{atWriter, operationOk}
-use Rattle.form.proofs.InForm.{InForm}
-use Rattle.events.specs.declared.Looked.{Looked}
-use Rattle.events.specs.Look.{lookWriting, lookSecond, lookFirst, lookAs, look}
+use Rattle.tables.{proofs.Quorum.enough-more, specs.Marks.{hasW, reachesW, hasR, enough}, specs.Places.wAt, specs.declared.WriteNo.WriteNo}
+use Rattle.form.{proofs.InForm.InForm, specs.Form.{atWriter, operationOk}, specs.Setting.{ownPlace, ownW, ownR, setOperation}}
+use Rattle.form.specs.declared.{Operation.Operation, Operation.the-variants.{Idle, Writing, FirstWait, SecondWait}, Tables.Tables}
+use Rattle.events.specs.{Look.{lookWriting, lookSecond, lookFirst, lookAs, look}, declared.Looked.Looked}
 use Rattle.promise.specs.View.{viewOf, codeOf, WaitsAs, Waits}
 
 module _ (p : Tables) where

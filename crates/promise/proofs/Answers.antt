@@ -1,28 +1,20 @@
 -- Which refusals a panel in form meets, in numbers: a start 6, 7 or 8, a delivery from a peer 11, 12 or 13 by its kind, or none; and of a
 -- delivery when it is none, and what it has passed then.
 -- Assumes nothing.
-use mathlib.Core.Path.{_≡_, refl, sym, ap, _∙_}
-use mathlib.Core.Bool.{Bool, true, false, not}
-use mathlib.Core.List.{List, [], _∷_, _++_}
-use mathlib.Core.Logic.{_≢_, _⊎_, inl, inr}
+use mathlib.Core.{Bool.{Bool, true, false, not}, List.{List, [], _∷_, _++_}, Logic.{_≢_, _⊎_, inl, inr}, Path.{_≡_, refl, sym, ap, _∙_}}
 use Prim.Native.Nat.{ℕ, suc, _+_, _-_, _%_, _≤_, _<_}
 use native.Mathlib.Omega.{arith}
 use lib.Dec.{leb, eqb, lit<}
 use borrow.Author.Tests.{eq-eqb, ne-eqb, eqb-true, lt-leb, le-ltb}
-use Rattle.basics.specs.Below.{oneIf}
-use Rattle.basics.specs.Refusal.{Trial, firstOf}
-use Rattle.basics.proofs.Choices.{clash, not-so, ite-true, ite-false, both-left, both-right, both-true, both-false-right}
-use Rattle.basics.proofs.Refusals.{first-past}
-use Rattle.basics.proofs.Ones.{one-false}
+use Rattle.basics.proofs.{Choices.{clash, not-so, ite-true, ite-false, both-left, both-right, both-true, both-false-right}, Ones.one-false}
+use Rattle.basics.{proofs.Refusals.first-past, specs.Below.oneIf, specs.Refusal.{Trial, firstOf}}
 use Rattle.tables.specs.Places.{wAt, rAt, holdAt, lineAt}
+use Rattle.form.{proofs.InForm.{InForm, form-of, panel-iff}, specs.Form.atWriter, specs.Setting.{ownPlace, ownW, ownR}}
 use Rattle.form.specs.declared.Tables.{Tables}
-use Rattle.form.specs.Setting.{ownPlace, ownW, ownR}
-use Rattle.form.specs.Form.{atWriter}
-use Rattle.form.proofs.InForm.{InForm, form-of, panel-iff}
-use Rattle.refusals.specs.Refusals.{isPeer, isIdle, rightBit, tooHigh, stray, lineFull, firstTrials, peerTrials, writeTrials, readTrials, writeFromTrials, readFromTrials, proceedFromTrials, trials, refusal}
-use Rattle.refusals.specs.Refusals.Event.{write, read, writeFrom, readFrom, proceedFrom}
 use Rattle.refusals.proofs.Passing.{MayCome, may-write-from, may-read-from, may-proceed-from, not-too-high}
 use Rattle.refusals.proofs.Refusing.{first-0, peer-0, more-given, more-0}
+use Rattle.refusals.specs.Refusals.{isPeer, isIdle, rightBit, tooHigh, stray, lineFull, firstTrials, peerTrials, writeTrials, readTrials, writeFromTrials, readFromTrials, proceedFromTrials, trials, refusal}
+use Rattle.refusals.specs.Refusals.Event.{write, read, writeFrom, readFrom, proceedFrom}
 use Rattle.promise.specs.View.{viewOf}
 
 -- ---- tests in numbers

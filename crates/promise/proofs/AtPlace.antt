@@ -1,28 +1,19 @@
 -- The promise of a panel by its place among the n: what it does, when it refuses, and that it stays there. Panel j is at place j - 1.
 -- Assumes nothing.
-use mathlib.Core.Path.{_≡_, sym, ap, subst₂, _∙_}
-use mathlib.Core.Bool.{Bool, true}
-use mathlib.Core.Logic.{_≢_, _⊎_}
+use mathlib.Core.{Bool.{Bool, true}, Logic.{_≢_, _⊎_}, Path.{_≡_, sym, ap, subst₂, _∙_}}
 use Prim.Native.Nat.{ℕ, suc, _+_, _-_, _%_, _≤_, _<_}
 use native.Mathlib.Omega.{arith}
 use Rattle.basics.specs.Below.{oneIf}
 use Rattle.messages.specs.Sends.{messagesOf}
 use Rattle.tables.specs.Marks.{enough}
-use Rattle.form.specs.declared.Operation.the-variants.{Idle}
-use Rattle.form.specs.declared.Tables.{Tables}
-use Rattle.form.specs.Setting.{ownPlace}
-use Rattle.form.specs.Form.{fits, atWriter, fresh}
-use Rattle.form.proofs.InForm.{panel-iff}
-use Rattle.refusals.specs.Refusals.{Event, isPeer, refusal}
-use Rattle.refusals.specs.Refusals.Event.{write, read, writeFrom, readFrom, proceedFrom}
+use Rattle.form.{proofs.InForm.panel-iff, specs.Form.{fits, atWriter, fresh}, specs.Setting.ownPlace}
+use Rattle.form.specs.declared.{Operation.the-variants.Idle, Tables.Tables}
+use Rattle.refusals.specs.Refusals.{Event, isPeer, refusal, Event.{write, read, writeFrom, readFrom, proceedFrom}}
 use Rattle.events.proofs.Kept.{Good}
-use Rattle.panel.specs.declared.Panel.{Panel}
-use Rattle.panel.specs.Calls.{after}
+use Rattle.panel.specs.{Calls.after, declared.Panel.Panel}
 use Rattle.protocol.specs.Promise.{ToPeers, Writes, Reads, WriteComes, WriteWaits, ReadComes, ProceedComes}
-use Rattle.promise.specs.View.{viewOf, outOf, Waits}
-use Rattle.promise.specs.Facts.{Formed, AllTo}
-use Rattle.promise.proofs.Numbers.{formed, fresh-good, fresh-n, fresh-number}
-use Rattle.promise.proofs.AfterLook.{level-idle}
+use Rattle.promise.specs.{Facts.{Formed, AllTo}, View.{viewOf, outOf, Waits}}
+use Rattle.promise.proofs.{AfterLook.level-idle, Numbers.{formed, fresh-good, fresh-n, fresh-number}}
 use Rattle.promise.proofs.Answers
 use Rattle.promise.proofs.AfterEvents
 

@@ -1,34 +1,21 @@
 -- A WRITE that is held, a READ and a PROCEED do what the promise says: lines 11 and 19 to 22.
 -- Assumes nothing.
-use mathlib.Core.Path.{_≡_, refl, ap, _∙_}
-use mathlib.Core.Bool.{true, false}
-use mathlib.Core.List.{List}
-use mathlib.Core.Logic.{_≢_}
+use mathlib.Core.{Bool.{true, false}, List.List, Logic._≢_, Path.{_≡_, refl, ap, _∙_}}
 use Prim.Native.Nat.{ℕ, suc, _+_}
 use native.Mathlib.Omega.{arith}
 use lib.ListN.{set}
-use Rattle.basics.specs.Below.{oneIf}
-use Rattle.basics.proofs.Choices.{ite-case}
-use Rattle.basics.proofs.Ones.{one, nought}
-use Rattle.messages.specs.Sends.{proceedsTo}
-use Rattle.messages.specs.Tally.{tally}
-use Rattle.tables.specs.declared.Hold.{Hold}
-use Rattle.tables.specs.declared.Line.{Line}
-use Rattle.tables.specs.declared.ReadNo.{ReadNo}
-use Rattle.tables.specs.Places.{rAt, holdAt, lineAt}
-use Rattle.tables.specs.Lines.{joined}
-use Rattle.tables.proofs.Lines.{len-joined}
+use Rattle.basics.{proofs.Choices.ite-case, proofs.Ones.{one, nought}, specs.Below.oneIf}
+use Rattle.messages.specs.{Sends.proceedsTo, Tally.tally}
+use Rattle.tables.{proofs.Lines.len-joined, specs.Lines.joined, specs.Places.{rAt, holdAt, lineAt}, specs.declared.Hold.Hold}
+use Rattle.tables.specs.declared.{Line.Line, ReadNo.ReadNo}
+use Rattle.form.{proofs.Stores.{r-set, r-set-ne, hold-set, hold-set-ne, line-set, line-set-ne}, specs.Setting.{ownPlace, ownW, setLines}}
 use Rattle.form.specs.declared.Tables.{Tables}
-use Rattle.form.specs.Setting.{ownPlace, ownW, setLines}
-use Rattle.form.proofs.Stores.{r-set, r-set-ne, hold-set, hold-set-ne, line-set, line-set-ne}
+use Rattle.events.{proofs.Kept.Good, proofs.KeptPeers.PeerPlace, specs.Rules.{sendsProceeds, holdRule, readFromRule, proceedRule}}
 use Rattle.events.specs.declared.Ruled.{Ruled}
-use Rattle.events.specs.Rules.{sendsProceeds, holdRule, readFromRule, proceedRule}
-use Rattle.events.proofs.KeptPeers.{PeerPlace}
-use Rattle.events.proofs.Kept.{Good}
 use Rattle.protocol.specs.Promise.{WriteWaits, ReadComes, ProceedComes}
 use Rattle.promise.specs.View.{viewOf, outOf}
-use Rattle.promise.proofs.Tallies.{no-cast-out, proceeds-there, proceeds-elsewhere, proceeds-kind, proceeds-none-out, out-parts}
 use Rattle.promise.proofs.Receivers.{no-cast-to, SendsTo, proceed-peer, sends-peers}
+use Rattle.promise.proofs.Tallies.{no-cast-out, proceeds-there, proceeds-elsewhere, proceeds-kind, proceeds-none-out, out-parts}
 
 -- ---- an event that sends PROCEEDs alone
 

@@ -1,29 +1,18 @@
 -- Which WRITEs go out: a cast sends to each peer the WRITE that is due by the write numbers, with its bit.
 -- Assumes nothing.
-use mathlib.Core.Path.{_≡_, refl, sym, ap, _∙_}
-use mathlib.Core.Bool.{Bool, true, false}
-use mathlib.Core.Logic.{_≢_}
+use mathlib.Core.{Bool.{Bool, true, false}, Logic._≢_, Path.{_≡_, refl, sym, ap, _∙_}}
 use Prim.Native.Nat.{ℕ, suc, _+_, _-_, _%_, _≤_, _<_, min}
 use native.Mathlib.Omega.{arith}
-use lib.Dec.{eqb}
-use lib.ListN.{length, getD}
+use lib.{Dec.eqb, ListN.{length, getD}}
 use borrow.Author.Tests.{eq-eqb, ne-eqb, eqb-true, eqb-false}
-use Rattle.basics.specs.Choice.{both}
-use Rattle.basics.specs.Below.{oneIf}
+use Rattle.basics.specs.{Below.oneIf, Choice.both}
 use Rattle.messages.specs.declared.Cast.{Cast}
-use Rattle.tables.specs.Places.{wAt}
-use Rattle.tables.specs.Marks.{hasW}
-use Rattle.tables.proofs.Marks.{among-below, getD-marks}
-use Rattle.form.specs.declared.Tables.{Tables}
-use Rattle.form.specs.Setting.{ownPlace, ownW}
-use Rattle.form.proofs.Stores.{w-set, w-set-ne}
-use Rattle.events.specs.Rules.{learned, spread}
-use Rattle.events.proofs.Kept.{Good}
-use Rattle.protocol.specs.World.{Out, due}
-use Rattle.protocol.specs.Promise.{SendsDue}
+use Rattle.tables.{proofs.Marks.{among-below, getD-marks}, specs.Marks.hasW, specs.Places.wAt}
+use Rattle.form.{proofs.Stores.{w-set, w-set-ne}, specs.Setting.{ownPlace, ownW}, specs.declared.Tables.Tables}
+use Rattle.events.{proofs.Kept.Good, specs.Rules.{learned, spread}}
+use Rattle.protocol.specs.{Promise.SendsDue, World.{Out, due}}
 use Rattle.promise.specs.View.{castOut}
-use Rattle.promise.proofs.Tallies.{cast-at}
-use Rattle.promise.proofs.Receivers.{CastTo, marks-to}
+use Rattle.promise.proofs.{Receivers.{CastTo, marks-to}, Tallies.cast-at}
 
 -- what the laws here ask of a panel: less than form, so that it holds between the two WRITEs of one event too
 pub record Able (p : Tables) : Type 0 where

@@ -1,41 +1,25 @@
 -- The promise of a panel for each event: what an accepted event does to its numbers and what it sends, that its wait is not met
 -- afterwards, and that a refused one changes and sends nothing.
 -- Assumes nothing.
-use mathlib.Core.Path.{_≡_, refl, sym, ap, subst, subst₂, _∙_}
-use mathlib.Core.Bool.{Bool, true, false}
-use mathlib.Core.List.{List, []}
-use mathlib.Core.Logic.{_≢_}
+use mathlib.Core.{Bool.{Bool, true, false}, List.{List, []}, Logic._≢_, Path.{_≡_, refl, sym, ap, subst, subst₂, _∙_}}
 use Prim.Native.Nat.{ℕ, _-_, _≤_}
 use native.Mathlib.Omega.{arith}
-use lib.Dec.{eqb}
-use lib.ListN.{length}
+use lib.{Dec.eqb, ListN.length}
 use borrow.Author.Tests.{eqb-true, eqb-false}
 use Rattle.basics.proofs.Choices.{ite-case}
-use Rattle.messages.specs.Sends.{Message, messagesOf, noSends}
-use Rattle.messages.proofs.Messages.{messages-of-none}
-use Rattle.form.specs.declared.Tables.{Tables}
-use Rattle.form.specs.Setting.{ownPlace}
-use Rattle.refusals.specs.Refusals.{Event, rightBit, refusal}
-use Rattle.refusals.specs.Refusals.Event.{write, read, writeFrom, readFrom, proceedFrom}
-use Rattle.events.specs.declared.Ruled.{Ruled}
-use Rattle.events.specs.declared.Done.{Done}
-use Rattle.events.specs.Rules.{takeRule, holdRule}
-use Rattle.events.specs.Events.{rule, lookedAt, refusedBy, happens}
-use Rattle.events.proofs.KeptPeers.{PeerPlace}
-use Rattle.events.proofs.Kept.{Good, peer-place}
-use Rattle.events.proofs.Happening.{happens-refused, happens-taken}
-use Rattle.events.proofs.Coming.{rule-takes, rule-holds}
-use Rattle.events.proofs.Fitting.{sends-fit}
-use Rattle.protocol.specs.World.{View, Out}
-use Rattle.protocol.specs.Promise.{Writes, Reads, WriteComes, WriteWaits, ReadComes, ProceedComes}
-use Rattle.promise.specs.View.{viewOf, outOf, codeOf, Waits}
-use Rattle.promise.specs.Facts.{AllTo, none}
-use Rattle.promise.proofs.Receivers.{SendsTo, all-messages}
+use Rattle.messages.{proofs.Messages.messages-of-none, specs.Sends.{Message, messagesOf, noSends}}
+use Rattle.form.specs.{Setting.ownPlace, declared.Tables.Tables}
+use Rattle.refusals.specs.Refusals.{Event, rightBit, refusal, Event.{write, read, writeFrom, readFrom, proceedFrom}}
+use Rattle.events.proofs.{Coming.{rule-takes, rule-holds}, Fitting.sends-fit, Happening.{happens-refused, happens-taken}}
+use Rattle.events.{proofs.Kept.{Good, peer-place}, proofs.KeptPeers.PeerPlace, specs.Events.{rule, lookedAt, refusedBy, happens}}
+use Rattle.events.specs.{Rules.{takeRule, holdRule}, declared.Done.Done, declared.Ruled.Ruled}
+use Rattle.protocol.specs.{Promise.{Writes, Reads, WriteComes, WriteWaits, ReadComes, ProceedComes}, World.{View, Out}}
+use Rattle.promise.specs.{Facts.{AllTo, none}, View.{viewOf, outOf, codeOf, Waits}}
 use Rattle.promise.proofs.AfterLook.{look-view, look-code, look-waits}
 use Rattle.promise.proofs.Answers.{write-from-told, read-from-told, proceed-from-told, stray-free}
-use Rattle.promise.proofs.Starting.{write-starts, write-sends-to, read-starts, read-sends-to}
-use Rattle.promise.proofs.TakesAll.{take-comes, take-sends-to}
 use Rattle.promise.proofs.Coming.{hold-waits, hold-sends-to, read-comes, read-from-sends-to, proceed-comes, proceed-sends-to}
+use Rattle.promise.proofs.{Receivers.{SendsTo, all-messages}, Starting.{write-starts, write-sends-to, read-starts, read-sends-to}}
+use Rattle.promise.proofs.TakesAll.{take-comes, take-sends-to}
 
 -- ---- refused, or not
 

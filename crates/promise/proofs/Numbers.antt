@@ -1,33 +1,16 @@
 -- Form in numbers: what a panel in form has at each place, and that a fresh panel has zero everywhere and waits for nothing.
 -- Assumes nothing.
-use mathlib.Core.Path.{_≡_, refl, sym, ap, subst, _∙_}
-use mathlib.Core.Bool.{true}
+use mathlib.Core.{Bool.true, Path.{_≡_, refl, sym, ap, subst, _∙_}}
 use Prim.Native.Nat.{ℕ, _≤_, _<_}
-use native.Mathlib.Decide.{decLt}
-use native.Mathlib.Omega.{arith}
-use lib.ListN.{replicate, length-replicate, List·getD-eq-default}
-use lib.Seq.{getD-set-same}
-use Rattle.basics.specs.Below.{oneIf}
-use Rattle.basics.proofs.Lists.{getD-case, getD-same}
-use Rattle.basics.proofs.Ones.{nought, one-most, one-true}
-use Rattle.tables.specs.declared.WriteNo.{WriteNo}
-use Rattle.tables.specs.declared.ReadNo.{ReadNo}
-use Rattle.tables.specs.declared.Hold.{Hold}
-use Rattle.tables.specs.declared.Line.{Line}
-use Rattle.tables.specs.Places.{wAt, rAt, holdAt, lineAt, noWrite, noRead, noHold, noLine}
-use Rattle.tables.proofs.Form.{LineForm, level-empty}
-use Rattle.form.specs.declared.Tables.{Tables}
-use Rattle.form.specs.Setting.{ownPlace, ownW}
-use Rattle.form.specs.Form.{fits, isPanel, emptyLine, fresh}
-use Rattle.form.proofs.InForm.{PlaceOf}
-use Rattle.form.proofs.Places.{empty-hold, empty-line}
-use Rattle.form.proofs.Shape.{fresh-shaped}
-use Rattle.form.proofs.AtFirst.{fresh-form}
-use Rattle.events.specs.Rules.{valueOf}
-use Rattle.events.proofs.KeptStarts.{own-place}
-use Rattle.events.proofs.Kept.{Good}
-use Rattle.promise.specs.View.{viewOf, Waits}
-use Rattle.promise.specs.Facts.{Formed, AllZero}
+use native.Mathlib.{Decide.decLt, Omega.arith}
+use lib.{ListN.{replicate, length-replicate, List·getD-eq-default}, Seq.getD-set-same}
+use Rattle.basics.{proofs.Lists.{getD-case, getD-same}, proofs.Ones.{nought, one-most, one-true}, specs.Below.oneIf}
+use Rattle.tables.{proofs.Form.{LineForm, level-empty}, specs.Places.{wAt, rAt, holdAt, lineAt, noWrite, noRead, noHold, noLine}}
+use Rattle.tables.specs.declared.{Hold.Hold, Line.Line, ReadNo.ReadNo, WriteNo.WriteNo}
+use Rattle.form.proofs.{AtFirst.fresh-form, InForm.PlaceOf, Places.{empty-hold, empty-line}, Shape.fresh-shaped}
+use Rattle.form.specs.{Form.{fits, isPanel, emptyLine, fresh}, Setting.{ownPlace, ownW}, declared.Tables.Tables}
+use Rattle.events.{proofs.Kept.Good, proofs.KeptStarts.own-place, specs.Rules.valueOf}
+use Rattle.promise.specs.{Facts.{Formed, AllZero}, View.{viewOf, Waits}}
 
 module _ (p : Tables) (g : Good p) where
   -- past the seven places of the tables stands zero, and that is in form too

@@ -1,29 +1,17 @@
 -- Messages go to other panels of the n: of a cast, of PROCEEDs, and of all that an event sends; so nothing is counted elsewhere.
 -- Assumes nothing.
-use mathlib.Core.Path.{_≡_, refl, sym, ap, ap₂, _∙_}
-use mathlib.Core.Bool.{Bool, true, false}
-use mathlib.Core.List.{List, [], _∷_, _++_}
-use mathlib.Core.Logic.{_≢_}
+use mathlib.Core.{Bool.{Bool, true, false}, List.{List, [], _∷_, _++_}, Logic._≢_, Path.{_≡_, refl, sym, ap, ap₂, _∙_}}
 use Prim.Native.Nat.{ℕ, zero, suc, _+_, _-_, _≤_, _<_}
 use native.Mathlib.Omega.{arith}
-use lib.Dec.{eqb}
-use lib.ListN.{getD}
+use lib.{Dec.eqb, ListN.getD}
 use borrow.Author.Tests.{ne-eqb, ltb-true, eqb-true}
-use Rattle.basics.specs.Choice.{ite, both}
-use Rattle.basics.specs.Below.{oneIf}
-use Rattle.basics.proofs.Choices.{clash, both-left, both-right, both-false-left}
-use Rattle.basics.proofs.Lists.{getD-same}
-use Rattle.basics.proofs.Ones.{nought}
-use Rattle.messages.specs.declared.Cast.{Cast}
-use Rattle.messages.specs.declared.Sends.{Sends}
-use Rattle.messages.specs.Sends.{Message, castBelow, castOf, proceedsTo, messagesOf, noCast}
-use Rattle.messages.specs.Tally.{tally}
-use Rattle.messages.proofs.Messages.{castTo, proceedTo}
-use Rattle.tables.specs.Marks.{among, marks, onlyPlace}
-use Rattle.tables.proofs.Marks.{getD-marks, only-at}
+use Rattle.basics.proofs.{Choices.{clash, both-left, both-right, both-false-left}, Lists.getD-same, Ones.nought}
+use Rattle.basics.specs.{Below.oneIf, Choice.{ite, both}}
+use Rattle.messages.{proofs.Messages.{castTo, proceedTo}, specs.Sends.{Message, castBelow, castOf, proceedsTo, messagesOf, noCast}}
+use Rattle.messages.specs.{Tally.tally, declared.Cast.Cast, declared.Sends.Sends}
+use Rattle.tables.{proofs.Marks.{getD-marks, only-at}, specs.Marks.{among, marks, onlyPlace}}
 use Rattle.protocol.specs.Promise.{ToPeers}
-use Rattle.promise.specs.View.{castOut, outOf}
-use Rattle.promise.specs.Facts.{ToPeer, AllTo, none, more}
+use Rattle.promise.specs.{Facts.{ToPeer, AllTo, none, more}, View.{castOut, outOf}}
 
 pub all-append : {n number : ℕ} {xs ys : List Message} → AllTo n number xs → AllTo n number ys → AllTo n number (xs ++ ys)
 all-append none b = b

@@ -1,27 +1,16 @@
 -- Every event keeps n, t, writer, number and the initial value, refused or not.
 -- Assumes nothing.
-use mathlib.Core.List.{List}
-use mathlib.Core.Path.{_≡_, refl, _∙_}
+use mathlib.Core.{List.List, Path.{_≡_, refl, _∙_}}
 use Prim.Native.Nat.{ℕ, _+_, _-_}
 use native.Mathlib.Omega.{arith}
-use lib.Seq.{getD-set-other}
-use lib.ListN.{getD, set}
+use lib.{ListN.{getD, set}, Seq.getD-set-other}
 use Rattle.basics.proofs.Choices.{ite-case}
-use Rattle.tables.specs.declared.WriteNo.{WriteNo}
-use Rattle.tables.specs.declared.ReadNo.{ReadNo}
-use Rattle.tables.specs.declared.Hold.{Hold}
-use Rattle.tables.specs.declared.Line.{Line}
-use Rattle.tables.specs.Places.{holdAt, noHold}
-use Rattle.form.specs.declared.Operation.{Operation}
-use Rattle.form.specs.declared.Tables.{Tables}
-use Rattle.form.specs.Setting.{ownW, setHeld}
-use Rattle.refusals.specs.Refusals.{Event}
-use Rattle.refusals.specs.Refusals.Event.{write, read, writeFrom, readFrom, proceedFrom}
-use Rattle.events.specs.declared.Took.{Took}
-use Rattle.events.specs.declared.Ruled.{Ruled}
-use Rattle.events.specs.declared.Done.{Done}
-use Rattle.events.specs.Rules.{valueOf, learned, reached, take, takeHeld, released, takeRule, writeRule, readRule, holdRule, readFromRule, proceedRule}
+use Rattle.tables.specs.{Places.{holdAt, noHold}, declared.Hold.Hold, declared.Line.Line, declared.ReadNo.ReadNo, declared.WriteNo.WriteNo}
+use Rattle.form.specs.{Setting.{ownW, setHeld}, declared.Operation.Operation, declared.Tables.Tables}
+use Rattle.refusals.specs.Refusals.{Event, Event.{write, read, writeFrom, readFrom, proceedFrom}}
 use Rattle.events.specs.Events.{rule, lookedAt, refusedBy, happens}
+use Rattle.events.specs.Rules.{valueOf, learned, reached, take, takeHeld, released, takeRule, writeRule, readRule, holdRule, readFromRule, proceedRule}
+use Rattle.events.specs.declared.{Done.Done, Ruled.Ruled, Took.Took}
 use Rattle.promise.specs.Facts.{SameSetting}
 use Rattle.promise.proofs.AfterLook.{look-keeps}
 

@@ -1,32 +1,21 @@
 -- A write and a read that start do what the promise says: lines 1 and 2, lines 5 and 6.
 -- Assumes nothing.
-use mathlib.Core.Path.{_≡_, refl, ap, _∙_}
-use mathlib.Core.Bool.{true, false, not}
-use mathlib.Core.Logic.{_≢_}
+use mathlib.Core.{Bool.{true, false, not}, Logic._≢_, Path.{_≡_, refl, ap, _∙_}}
 use Prim.Native.Nat.{ℕ, _+_, _≤_, _<_}
 use native.Mathlib.Omega.{arith}
 use lib.ListN.{getD, set}
 use borrow.Author.Tests.{eq-eqb, ne-eqb, eqb-false, not-true}
-use Rattle.basics.specs.Below.{oneIf}
-use Rattle.basics.proofs.Choices.{both-true}
-use Rattle.basics.proofs.Ones.{one}
+use Rattle.basics.{proofs.Choices.both-true, proofs.Ones.one, specs.Below.oneIf}
 use Rattle.messages.specs.declared.Cast.{Cast}
+use Rattle.tables.{proofs.Marks.{among-below, getD-marks}, specs.Marks.{isOther, marks}, specs.Places.wAt, specs.declared.ReadNo.ReadNo}
 use Rattle.tables.specs.declared.WriteNo.{WriteNo}
-use Rattle.tables.specs.declared.ReadNo.{ReadNo}
-use Rattle.tables.specs.Places.{wAt}
-use Rattle.tables.specs.Marks.{isOther, marks}
-use Rattle.tables.proofs.Marks.{among-below, getD-marks}
-use Rattle.form.specs.declared.Tables.{Tables}
-use Rattle.form.specs.Setting.{ownPlace, ownW, ownR}
-use Rattle.form.proofs.Stores.{w-set, w-set-ne, r-set, r-set-ne}
-use Rattle.events.specs.Rules.{learned, spread, sendsOwn, writeRule, readRule}
-use Rattle.events.proofs.KeptStarts.{own-place}
-use Rattle.events.proofs.Kept.{Good}
+use Rattle.form.{proofs.Stores.{w-set, w-set-ne, r-set, r-set-ne}, specs.Setting.{ownPlace, ownW, ownR}, specs.declared.Tables.Tables}
+use Rattle.events.{proofs.Kept.Good, proofs.KeptStarts.own-place, specs.Rules.{learned, spread, sendsOwn, writeRule, readRule}}
 use Rattle.protocol.specs.Promise.{Writes, Reads}
 use Rattle.promise.specs.View.{viewOf, castOut, outOf}
-use Rattle.promise.proofs.Tallies.{no-cast-out, cast-at, cast-kind, proceeds-none-out, out-parts}
-use Rattle.promise.proofs.Receivers.{CastTo, no-cast-to, marks-to, SendsTo, sends-peers}
 use Rattle.promise.proofs.Dues.{able, due-alike, spread-to, spread-kind, spread-due}
+use Rattle.promise.proofs.Receivers.{CastTo, no-cast-to, marks-to, SendsTo, sends-peers}
+use Rattle.promise.proofs.Tallies.{no-cast-out, cast-at, cast-kind, proceeds-none-out, out-parts}
 
 -- ---- an event that sends one cast alone
 

@@ -1,38 +1,22 @@
 -- A WRITE of the right bit does what the promise says: it is taken, then the held one if there is one, then READs leave the line.
 -- Assumes nothing.
-use mathlib.Core.Path.{_≡_, refl, sym, ap, subst, subst₂, _∙_}
-use mathlib.Core.Bool.{true, false}
-use mathlib.Core.List.{List}
-use mathlib.Core.Logic.{_≢_}
+use mathlib.Core.{Bool.{true, false}, List.List, Logic._≢_, Path.{_≡_, refl, sym, ap, subst, subst₂, _∙_}}
 use Prim.Native.Nat.{ℕ, _+_, _-_, _≤_, _<_}
-use native.Mathlib.Decide.{ℕ-discrete}
-use native.Mathlib.Omega.{arith}
+use native.Mathlib.{Decide.ℕ-discrete, Omega.arith}
 use lib.ListN.{length, set}
-use Rattle.basics.specs.Below.{oneIf}
-use Rattle.basics.proofs.Choices.{clash, ite-case}
-use Rattle.basics.proofs.Ones.{nought, one-true, one-false, nought-or-one}
-use Rattle.messages.specs.Sends.{noCast, proceedsTo}
-use Rattle.messages.specs.Tally.{tally}
-use Rattle.tables.specs.declared.Hold.{Hold}
-use Rattle.tables.specs.declared.Line.{Line}
-use Rattle.tables.specs.declared.ReadNo.{ReadNo}
-use Rattle.tables.specs.Places.{wAt, rAt, holdAt, lineAt, noHold}
-use Rattle.tables.specs.Lines.{leaving, without}
-use Rattle.tables.proofs.Lines.{len-without, leaving-most}
+use Rattle.basics.{proofs.Choices.{clash, ite-case}, proofs.Ones.{nought, one-true, one-false, nought-or-one}, specs.Below.oneIf}
+use Rattle.messages.specs.{Sends.{noCast, proceedsTo}, Tally.tally}
+use Rattle.tables.{proofs.Lines.{len-without, leaving-most}, specs.Lines.{leaving, without}}
+use Rattle.tables.specs.{Places.{wAt, rAt, holdAt, lineAt, noHold}, declared.Hold.Hold, declared.Line.Line, declared.ReadNo.ReadNo}
+use Rattle.form.{proofs.Stores.{hold-set, hold-set-ne, line-set, line-set-ne}, specs.Setting.{ownPlace, setHeld}}
 use Rattle.form.specs.declared.Tables.{Tables}
-use Rattle.form.specs.Setting.{ownPlace, setHeld}
-use Rattle.form.proofs.Stores.{hold-set, hold-set-ne, line-set, line-set-ne}
-use Rattle.events.specs.declared.Took.{Took}
-use Rattle.events.specs.Rules.{take, takeHeld, released, takeRule}
-use Rattle.events.proofs.KeptPeers.{PeerPlace}
-use Rattle.events.proofs.Running.{take-keeps, held-keeps}
-use Rattle.events.proofs.Kept.{Good}
+use Rattle.events.proofs.{Kept.Good, KeptPeers.PeerPlace, Running.{take-keeps, held-keeps}}
+use Rattle.events.specs.{Rules.{take, takeHeld, released, takeRule}, declared.Took.Took}
 use Rattle.protocol.specs.Promise.{Takes, WriteComes}
 use Rattle.promise.specs.View.{viewOf, castOut, outOf}
-use Rattle.promise.proofs.Tallies.{no-cast-out, cast-kind, proceeds-there, proceeds-elsewhere, proceeds-kind, out-parts}
-use Rattle.promise.proofs.Receivers.{CastTo, no-cast-to, SendsTo, proceed-peer, sends-peers}
-use Rattle.promise.proofs.Dues.{Able, able}
+use Rattle.promise.proofs.{Dues.{Able, able}, Receivers.{CastTo, no-cast-to, SendsTo, proceed-peer, sends-peers}}
 use Rattle.promise.proofs.TakesOne.{TakesOne, take-one}
+use Rattle.promise.proofs.Tallies.{no-cast-out, cast-kind, proceeds-there, proceeds-elsewhere, proceeds-kind, out-parts}
 
 -- what the held WRITE of the peer at place k leaves, where there is one and where there is none
 record TakesHeld (q : Tables) (k : ℕ) (o : Took) : Type 0 where

@@ -1,33 +1,20 @@
 -- One WRITE that is taken (lines 12 to 18) does what the promise says: learned and spread, or the next value for a peer that lags,
 -- or neither.
 -- Assumes nothing.
-use mathlib.Core.Path.{_≡_, sym, ap, subst, _∙_}
-use mathlib.Core.Bool.{true, false}
-use mathlib.Core.List.{List}
-use mathlib.Core.Logic.{_≢_}
+use mathlib.Core.{Bool.{true, false}, List.List, Logic._≢_, Path.{_≡_, sym, ap, subst, _∙_}}
 use Prim.Native.Nat.{ℕ, suc, _+_, _%_, _≤_, _<_}
-use native.Mathlib.Decide.{ℕ-discrete}
-use native.Mathlib.Omega.{arith}
+use native.Mathlib.{Decide.ℕ-discrete, Omega.arith}
 use lib.ListN.{length, getD, set}
 use borrow.Author.Tests.{eqb-true, eqb-false, ltb-true, ltb-false}
 use Rattle.basics.proofs.Choices.{clash, ite-case}
-use Rattle.messages.specs.declared.Cast.{Cast}
-use Rattle.messages.specs.Sends.{noCast}
-use Rattle.tables.specs.declared.WriteNo.{WriteNo}
-use Rattle.tables.specs.Places.{wAt}
-use Rattle.tables.specs.Marks.{onlyPlace}
-use Rattle.tables.proofs.Marks.{only-at}
-use Rattle.form.specs.declared.Tables.{Tables}
-use Rattle.form.specs.Setting.{ownPlace, ownW}
-use Rattle.form.proofs.Stores.{w-set, w-set-ne}
-use Rattle.form.proofs.Shape.{length-kept}
-use Rattle.events.specs.declared.Took.{Took}
-use Rattle.events.specs.Rules.{valueOf, learned, spread, reached, take}
-use Rattle.protocol.specs.World.{due}
-use Rattle.protocol.specs.Promise.{Takes}
+use Rattle.messages.specs.{Sends.noCast, declared.Cast.Cast}
+use Rattle.tables.{proofs.Marks.only-at, specs.Marks.onlyPlace, specs.Places.wAt, specs.declared.WriteNo.WriteNo}
+use Rattle.form.{proofs.Shape.length-kept, proofs.Stores.{w-set, w-set-ne}, specs.Setting.{ownPlace, ownW}, specs.declared.Tables.Tables}
+use Rattle.events.specs.{Rules.{valueOf, learned, spread, reached, take}, declared.Took.Took}
+use Rattle.protocol.specs.{Promise.Takes, World.due}
 use Rattle.promise.specs.View.{castOut}
-use Rattle.promise.proofs.Receivers.{CastTo, unmarked, no-cast-to, only-to, cast-peers}
 use Rattle.promise.proofs.Dues.{Able, Step, cast-due, spread-to, spread-kind, spread-due}
+use Rattle.promise.proofs.Receivers.{CastTo, unmarked, no-cast-to, only-to, cast-peers}
 
 -- what a WRITE taken from the peer at place k leaves: the promise, and that WRITEs alone are sent, to other panels
 pub record TakesOne (p : Tables) (k : ℕ) (o : Took) : Type 0 where

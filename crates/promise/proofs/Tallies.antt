@@ -1,25 +1,15 @@
 -- How many messages of a kind go to a place: of lists behind each other, of a cast, of PROCEEDs, and of all that an event sends.
 -- Assumes nothing.
-use mathlib.Core.Path.{_≡_, refl, sym, ap, ap₂, _∙_}
-use mathlib.Core.Bool.{Bool, true, false}
-use mathlib.Core.List.{List, [], _∷_, _++_}
-use mathlib.Core.Logic.{_≢_}
+use mathlib.Core.{Bool.{Bool, true, false}, List.{List, [], _∷_, _++_}, Logic._≢_, Path.{_≡_, refl, sym, ap, ap₂, _∙_}}
 use Prim.Native.Nat.{ℕ, zero, suc, _+_, _≤_, _<_}
-use native.Mathlib.Decide.{ℕ-discrete}
-use native.Mathlib.Nat.{zero-add, add-zero, not-suc-le-zero}
-use native.Mathlib.Omega.{arith}
-use lib.Dec.{eqb}
-use lib.ListN.{getD}
+use native.Mathlib.{Decide.ℕ-discrete, Nat.{zero-add, add-zero, not-suc-le-zero}, Omega.arith}
+use lib.{Dec.eqb, ListN.getD}
 use borrow.Author.Tests.{eq-eqb, ne-eqb}
+use Rattle.basics.{proofs.Choices.{both-true, both-false-left, both-false-right}, proofs.Ones.{one, nought}, specs.Below.oneIf}
 use Rattle.basics.specs.Choice.{ite, both}
-use Rattle.basics.specs.Below.{oneIf}
-use Rattle.basics.proofs.Choices.{both-true, both-false-left, both-false-right}
-use Rattle.basics.proofs.Ones.{one, nought}
-use Rattle.messages.specs.declared.Cast.{Cast}
-use Rattle.messages.specs.declared.Sends.{Sends}
-use Rattle.messages.specs.Sends.{Message, castBelow, castOf, proceedsTo, messagesOf, noCast}
-use Rattle.messages.specs.Tally.{tally}
 use Rattle.messages.proofs.Messages.{castTo, castAt, cast-of-none, proceedTo}
+use Rattle.messages.specs.{Sends.{Message, castBelow, castOf, proceedsTo, messagesOf, noCast}, Tally.tally, declared.Cast.Cast}
+use Rattle.messages.specs.declared.Sends.{Sends}
 use Rattle.promise.specs.View.{castOut, outOf}
 
 -- ---- lists

@@ -1,9 +1,7 @@
 -- What else is told of a panel by numbers: what stays as it was set up, what form says, and to whom messages go.
 -- Assumes nothing.
 use Prim.Native.Nat.{ℕ, _+_, _≤_, _<_}
-use mathlib.Core.Path.{_≡_}
-use mathlib.Core.Logic.{_≢_}
-use mathlib.Core.List.{List, [], _∷_}
+use mathlib.Core.{List.{List, [], _∷_}, Logic._≢_, Path._≡_}
 use Rattle.messages.specs.Sends.{Message}
 use Rattle.form.specs.declared.Tables.{Tables}
 use Rattle.events.specs.Rules.{valueOf}

@@ -1,21 +1,13 @@
 -- A panel's tables, what it sends and its answer in the words of the protocol: numbers by place, counts by place and kind.
 -- Assumes nothing.
 use Prim.Native.Nat.{ℕ, _+_}
-use mathlib.Core.Path.{_≡_}
-use mathlib.Core.Bool.{false}
+use mathlib.Core.{Bool.false, Path._≡_}
 use Rattle.basics.specs.Below.{oneIf}
-use Rattle.messages.specs.declared.Cast.{Cast}
-use Rattle.messages.specs.declared.Sends.{Sends}
-use Rattle.messages.specs.Sends.{castOf, messagesOf}
-use Rattle.messages.specs.Tally.{tally}
-use Rattle.tables.specs.Places.{wAt, rAt, holdAt, lineAt}
-use Rattle.tables.specs.Marks.{hasW, reachesW, hasR, enough}
-use Rattle.form.specs.declared.Operation.{Operation}
-use Rattle.form.specs.declared.Operation.the-variants.{Idle, Writing, FirstWait, SecondWait}
-use Rattle.form.specs.declared.Tables.{Tables}
-use Rattle.form.specs.Setting.{ownW, ownR}
-use Rattle.events.specs.declared.Answer.{Answer}
-use Rattle.events.specs.declared.Answer.the-variants.{Refused, Nothing, Wrote, Gave}
+use Rattle.messages.specs.{Sends.{castOf, messagesOf}, Tally.tally, declared.Cast.Cast, declared.Sends.Sends}
+use Rattle.tables.specs.{Marks.{hasW, reachesW, hasR, enough}, Places.{wAt, rAt, holdAt, lineAt}}
+use Rattle.form.specs.{Setting.{ownW, ownR}, declared.Operation.Operation}
+use Rattle.form.specs.declared.{Operation.the-variants.{Idle, Writing, FirstWait, SecondWait}, Tables.Tables}
+use Rattle.events.specs.declared.Answer.{Answer, the-variants.{Refused, Nothing, Wrote, Gave}}
 use Rattle.protocol.specs.World.{View, Out}
 
 -- the numbers of a panel, by place

@@ -1,12 +1,9 @@
 -- What the invariant says of one panel and of the others as it meets them: read off a world, and put back where that panel acted.
 -- Assumes nothing.
 use Prim.Native.Nat.{ℕ, suc, _+_, _%_, _≤_, _<_}
-use mathlib.Core.Path.{_≡_, refl, sym, ap, subst, subst₂, _∙_}
-use mathlib.Core.Logic.{_≢_}
-use native.Mathlib.Decide.{ℕ-discrete}
-use native.Mathlib.Omega.{arith}
-use Rattle.protocol.specs.World.{View, World, Out, W, R, due, Starts, Delivers}
-use Rattle.protocol.specs.Invariant.{Pair, PairOf, none, Inv}
+use mathlib.Core.{Logic._≢_, Path.{_≡_, refl, sym, ap, subst, subst₂, _∙_}}
+use native.Mathlib.{Decide.ℕ-discrete, Omega.arith}
+use Rattle.protocol.specs.{Invariant.{Pair, PairOf, none, Inv}, World.{View, World, Out, W, R, due, Starts, Delivers}}
 use Rattle.protocol.proofs.Pairs.{pair-same}
 
 -- Of panel p: `them` are the panels around it, `arriving` is what flies to it by sender and kind, `leaving` what flies from it. The

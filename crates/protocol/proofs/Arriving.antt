@@ -1,8 +1,7 @@
 -- What flies to a panel after one message came to it: one less of that kind from that sender, and all else as it was.
 -- Assumes nothing.
 use Prim.Native.Nat.{ℕ, suc}
-use mathlib.Core.Path.{_≡_, subst}
-use mathlib.Core.Logic.{_≢_}
+use mathlib.Core.{Logic._≢_, Path.{_≡_, subst}}
 use Rattle.protocol.specs.World.{World, Out, Delivers}
 
 module _ {q p k : ℕ} {out : Out} {s s′ : World} (h : Delivers q p k out s s′) where

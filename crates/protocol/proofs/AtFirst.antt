@@ -3,9 +3,7 @@
 use Prim.Native.Nat.{ℕ, suc, _-_, _*_, _%_, _≤_, _<_}
 use mathlib.Core.Path.{_≡_, subst}
 use native.Mathlib.Omega.{arith}
-use Rattle.protocol.specs.World.{World, W, R}
-use Rattle.protocol.specs.Invariant.{none, Inv}
-use Rattle.protocol.specs.Counts.{sumPairs, came, made, begun}
+use Rattle.protocol.specs.{Counts.{sumPairs, came, made, begun}, Invariant.{none, Inv}, World.{World, W, R}}
 use Rattle.protocol.proofs.Sums.{sum-at-most, sum-each, pairs-most}
 
 pub record Fresh (n : ℕ) (s : World) : Type 0 where

@@ -1,12 +1,9 @@
 -- What a WRITE that is taken does to a panel's numbers, and what a WRITE that comes does: the one taken at once and the held one.
 -- Assumes nothing.
 use Prim.Native.Nat.{ℕ, suc, _+_, _≤_, _<_}
-use mathlib.Core.Path.{_≡_, sym, subst, _∙_}
-use mathlib.Core.Logic.{_≢_, _⊎_, inl, inr}
-use native.Mathlib.Decide.{ℕ-discrete}
-use native.Mathlib.Omega.{arith}
-use Rattle.protocol.specs.World.{View, Out}
-use Rattle.protocol.specs.Promise.{Takes, WriteComes}
+use mathlib.Core.{Logic.{_≢_, _⊎_, inl, inr}, Path.{_≡_, sym, subst, _∙_}}
+use native.Mathlib.{Decide.ℕ-discrete, Omega.arith}
+use Rattle.protocol.specs.{Promise.{Takes, WriteComes}, World.{View, Out}}
 
 -- the panel's own number stays the highest
 pub takes-own : {n p q : ℕ} {w w′ : ℕ → ℕ} {out : Out} → Takes n p q w w′ out → ((l : ℕ) → l < n → w l ≤ w p) → (l : ℕ) → l < n → w′ l ≤ w′ p

@@ -2,18 +2,14 @@
 -- 2·(n−1) for a read.
 -- Assumes nothing.
 use Prim.Native.Nat.{ℕ, suc, _+_, _-_, _*_, _≤_, _<_}
-use mathlib.Core.Path.{_≡_, sym, ap, ap₂, subst, _∙_}
-use mathlib.Core.Logic.{_≢_}
-use native.Mathlib.Decide.{ℕ-discrete}
-use native.Mathlib.Omega.{arith}
-use Rattle.protocol.specs.World.{View, World, Out, W, R, Starts, Delivers}
+use mathlib.Core.{Logic._≢_, Path.{_≡_, sym, ap, ap₂, subst, _∙_}}
+use native.Mathlib.{Decide.ℕ-discrete, Omega.arith}
+use Rattle.protocol.specs.{Counts.{sumPairs, came, made, begun}, Invariant.{none, Inv}}
 use Rattle.protocol.specs.Promise.{Writes, Reads, WriteComes, WriteWaits, ReadComes, ProceedComes}
-use Rattle.protocol.specs.Invariant.{none, Inv}
-use Rattle.protocol.specs.Counts.{sumPairs, came, made, begun}
-use Rattle.protocol.proofs.Sums.{sum-same, sum-more, sum-add, sum-each, sum-times, pairs-same, pairs-more, pairs-most}
-use Rattle.protocol.proofs.Arriving.{kind-else, sender-else, one-less}
-use Rattle.protocol.proofs.Around.{Acted, started, delivered}
+use Rattle.protocol.specs.World.{View, World, Out, W, R, Starts, Delivers}
+use Rattle.protocol.proofs.{Around.{Acted, started, delivered}, Arriving.{kind-else, sender-else, one-less}}
 use Rattle.protocol.proofs.Coming.{comes-one-more, comes-rest}
+use Rattle.protocol.proofs.Sums.{sum-same, sum-more, sum-add, sum-each, sum-times, pairs-same, pairs-more, pairs-most}
 
 -- of p's reads: READs that came to j and PROCEEDs that came back; of i at p: WRITEs taken or held and READs that came, r being i's reads
 abbrev Outward : World → ℕ → ℕ → ℕ

@@ -1,15 +1,11 @@
 -- The load of a world falls at each delivery, and is at most 200,000 where no table or channel is over-full.
 -- Assumes nothing.
 use Prim.Native.Nat.{ℕ, zero, suc, _+_, _*_, _≤_, _<_}
-use mathlib.Core.Path.{_≡_, ap, ap₂, _∙_}
-use mathlib.Core.Logic.{_≢_}
+use mathlib.Core.{Logic._≢_, Path.{_≡_, ap, ap₂, _∙_}}
 use native.Mathlib.Omega.{arith}
 use Rattle.basics.specs.Choice.{ite}
-use Rattle.protocol.specs.World.{World, Out, Delivers}
-use Rattle.protocol.specs.Counts.{panelLoad, outLoad, load, weight}
-use Rattle.protocol.proofs.Arriving.{kind-else}
-use Rattle.protocol.proofs.Sums.{sum-same, sum-add, sum-at-most, sum-change, sum-moved}
-use Rattle.protocol.proofs.Loads.{Weighed}
+use Rattle.protocol.specs.{Counts.{panelLoad, outLoad, load, weight}, World.{World, Out, Delivers}}
+use Rattle.protocol.proofs.{Arriving.kind-else, Loads.Weighed, Sums.{sum-same, sum-add, sum-at-most, sum-change, sum-moved}}
 
 -- one message of kind k is gone
 lighter : (k : ℕ) → k < 4 → (f g : ℕ → ℕ) → suc (g k) ≡ f k → ((m : ℕ) → m ≢ k → g m ≡ f m) → Weighed g + weight k ≡ Weighed f

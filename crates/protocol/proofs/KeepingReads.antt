@@ -1,15 +1,12 @@
 -- The invariant is kept by what READs and PROCEEDs do: a read begun, a READ answered or in line, a PROCEED counted.
 -- Assumes nothing.
 use Prim.Native.Nat.{ℕ, _+_, _<_}
-use mathlib.Core.Path.{_≡_, refl, sym, subst}
-use mathlib.Core.Logic.{_≢_}
-use native.Mathlib.Decide.{ℕ-discrete}
-use native.Mathlib.Omega.{arith}
+use mathlib.Core.{Logic._≢_, Path.{_≡_, refl, sym, subst}}
+use native.Mathlib.{Decide.ℕ-discrete, Omega.arith}
+use Rattle.protocol.specs.{Invariant.{none, Inv}, Promise.{NoWrites, Reads, ReadComes, ProceedComes}}
 use Rattle.protocol.specs.World.{World, Out, W, R, Starts, Delivers}
-use Rattle.protocol.specs.Promise.{NoWrites, Reads, ReadComes, ProceedComes}
-use Rattle.protocol.specs.Invariant.{none, Inv}
-use Rattle.protocol.proofs.Arriving.{kind-else, sender-else, one-less}
 use Rattle.protocol.proofs.Around.{from-same, around-same, WritesAt, writes-around, reads-around, started, delivered, inv-of}
+use Rattle.protocol.proofs.Arriving.{kind-else, sender-else, one-less}
 
 pub no-writes : {out : Out} → NoWrites out → (l k : ℕ) → k < 2 → out l k ≡ 0
 no-writes {out} h l k b = at (ℕ-discrete k 0)

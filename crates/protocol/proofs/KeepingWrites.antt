@@ -1,22 +1,16 @@
 -- The invariant is kept by what WRITEs do: a write begun, a WRITE taken with the held one behind it, a WRITE held.
 -- Assumes nothing.
 use Prim.Native.Nat.{ℕ, suc, _+_, _%_, _≤_, _<_, min}
-use mathlib.Core.Path.{_≡_, refl, sym, subst, _∙_}
-use mathlib.Core.Logic.{_≢_, _⊎_, inl, inr}
-use native.Mathlib.Decide.{ℕ-discrete}
-use native.Mathlib.Omega.{arith}
+use mathlib.Core.{Logic.{_≢_, _⊎_, inl, inr}, Path.{_≡_, refl, sym, subst, _∙_}}
+use native.Mathlib.{Decide.ℕ-discrete, Omega.arith}
 use lib.Dec.{eqb}
 use borrow.Author.Tests.{eq-eqb, ne-eqb}
-use Rattle.basics.specs.Choice.{ite}
-use Rattle.basics.proofs.Choices.{ite-true, ite-false}
+use Rattle.basics.{proofs.Choices.{ite-true, ite-false}, specs.Choice.ite}
+use Rattle.protocol.specs.{Invariant.{Pair, none, Inv}, Promise.{Writes, Takes, WriteComes, WriteWaits}}
 use Rattle.protocol.specs.World.{World, Out, W, due, Starts, Delivers}
-use Rattle.protocol.specs.Promise.{Writes, Takes, WriteComes, WriteWaits}
-use Rattle.protocol.specs.Invariant.{Pair, none, Inv}
-use Rattle.protocol.proofs.Pairs.{pair-same, to-hand, to-hold}
-use Rattle.protocol.proofs.Arriving.{kind-else, sender-else, one-less}
 use Rattle.protocol.proofs.Around.{PairTo, PairFrom, WritesAround, WritesAt, inward, from-same, around-same}
 use Rattle.protocol.proofs.Around.{writes-around, reads-around, started, delivered, most-is, inv-of}
-use Rattle.protocol.proofs.Coming.{released-all}
+use Rattle.protocol.proofs.{Arriving.{kind-else, sender-else, one-less}, Coming.released-all, Pairs.{pair-same, to-hand, to-hold}}
 use Rattle.protocol.proofs.TakingOne.{ahead, sends, takes-keeps}
 
 -- ---- the writer begins a write

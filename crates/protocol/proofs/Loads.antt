@@ -1,18 +1,13 @@
 -- The load of one panel and of what it sends falls below what it was with the message that came: for every event that a delivery runs.
 -- Assumes nothing.
 use Prim.Native.Nat.{ℕ, suc, _+_, _-_, _*_, _%_, _≤_, _<_}
-use mathlib.Core.Path.{_≡_, refl, sym, ap, subst, _∙_}
-use mathlib.Core.Logic.{_≢_, _⊎_, inl, inr}
-use native.Mathlib.Decide.{ℕ-discrete, decLt}
-use native.Mathlib.Omega.{arith}
+use mathlib.Core.{Logic.{_≢_, _⊎_, inl, inr}, Path.{_≡_, refl, sym, ap, subst, _∙_}}
+use native.Mathlib.{Decide.{ℕ-discrete, decLt}, Omega.arith}
 use borrow.Author.Tests.{ne-eqb}
-use Rattle.basics.specs.Choice.{ite}
-use Rattle.basics.proofs.Choices.{ite-false}
-use Rattle.protocol.specs.World.{View, Out, due}
-use Rattle.protocol.specs.Promise.{Takes, WriteComes, WriteWaits, ReadComes, ProceedComes}
+use Rattle.basics.{proofs.Choices.ite-false, specs.Choice.ite}
 use Rattle.protocol.specs.Counts.{sumBelow, panelLoad, outLoad, weight}
-use Rattle.protocol.proofs.Sums.{sum-same, sum-most, sum-add, sum-more, sum-slack}
-use Rattle.protocol.proofs.Coming.{takes-own, released-all}
+use Rattle.protocol.specs.{Promise.{Takes, WriteComes, WriteWaits, ReadComes, ProceedComes}, World.{View, Out, due}}
+use Rattle.protocol.proofs.{Coming.{takes-own, released-all}, Sums.{sum-same, sum-most, sum-add, sum-more, sum-slack}}
 
 -- ---- one WRITE taken: what it sends weighs at most what the write numbers lose
 

@@ -1,13 +1,10 @@
 -- Refusals 11, 12 and 13 never come to a message in flight: the invariant rules out what each of them asks about.
 -- Assumes nothing.
 use Prim.Native.Nat.{ℕ, suc, _%_, _≤_, _<_}
-use mathlib.Core.Path.{_≡_, sym, subst}
-use mathlib.Core.Logic.{_≢_}
+use mathlib.Core.{Logic._≢_, Path.{_≡_, sym, subst}}
 use native.Mathlib.Omega.{arith}
-use Rattle.protocol.specs.World.{World, W, R}
-use Rattle.protocol.specs.Invariant.{none, Inv}
-use Rattle.protocol.proofs.Around.{writes-around}
-use Rattle.protocol.proofs.TakingOne.{ahead}
+use Rattle.protocol.specs.{Invariant.{none, Inv}, World.{World, W, R}}
+use Rattle.protocol.proofs.{Around.writes-around, TakingOne.ahead}
 
 module _ {n writer : ℕ} {s : World} (v : Inv n writer none s) (q p : ℕ) (bq : q < n) (bp : p < n) (d : q ≢ p) where
   module _ (k : ℕ) (there : 1 ≤ s .flying q p k) where

@@ -1,13 +1,9 @@
 -- Where nothing flies to a live panel, the live panels agree: each knows each other's write number, and has all its answers.
 -- Assumes nothing.
 use Prim.Native.Nat.{ℕ, suc, _%_, _<_, min}
-use mathlib.Core.Path.{_≡_, refl, sym, ap}
-use mathlib.Core.Logic.{_≢_}
-use mathlib.Core.Bool.{Bool, true}
-use native.Mathlib.Decide.{ℕ-discrete}
-use native.Mathlib.Omega.{arith}
-use Rattle.protocol.specs.World.{World, W, R}
-use Rattle.protocol.specs.Invariant.{none, Inv}
+use mathlib.Core.{Bool.{Bool, true}, Logic._≢_, Path.{_≡_, refl, sym, ap}}
+use native.Mathlib.{Decide.ℕ-discrete, Omega.arith}
+use Rattle.protocol.specs.{Invariant.{none, Inv}, World.{World, W, R}}
 use Rattle.protocol.proofs.Pairs.{all-taken, level}
 
 module _ {n writer : ℕ} {s : World} (v : Inv n writer none s) (live : ℕ → Bool)

@@ -1,14 +1,10 @@
 -- Refusal 14 never comes: a pair of panels has at most one WRITE of each bit in flight, and not more READs and PROCEEDs than reads.
 -- Assumes nothing.
 use Prim.Native.Nat.{ℕ, suc, _%_, _≤_, _<_}
-use mathlib.Core.Path.{_≡_, sym, subst}
-use mathlib.Core.Logic.{_≢_}
-use native.Mathlib.Decide.{ℕ-discrete}
-use native.Mathlib.Omega.{arith}
-use Rattle.protocol.specs.World.{World, W, R}
-use Rattle.protocol.specs.Invariant.{none, Inv}
-use Rattle.protocol.proofs.Around.{writes-around}
-use Rattle.protocol.proofs.TakingOne.{ahead}
+use mathlib.Core.{Logic._≢_, Path.{_≡_, sym, subst}}
+use native.Mathlib.{Decide.ℕ-discrete, Omega.arith}
+use Rattle.protocol.specs.{Invariant.{none, Inv}, World.{World, W, R}}
+use Rattle.protocol.proofs.{Around.writes-around, TakingOne.ahead}
 
 module _ {n writer : ℕ} {s : World} (v : Inv n writer none s) (i j : ℕ) (bi : i < n) (bj : j < n) (d : i ≢ j) where
   pub one-write : (k : ℕ) → k < 2 → s .flying i j k ≤ 1

@@ -1,21 +1,16 @@
 -- Each step that a panel's promise allows, in one law: the invariant is kept, and the counts of writes, reads and deliveries move.
 -- Assumes nothing.
 use Prim.Native.Nat.{ℕ, suc, _+_, _%_, _<_}
-use mathlib.Core.Path.{_≡_, sym, ap, subst}
-use mathlib.Core.Logic.{_≢_}
-use native.Mathlib.Decide.{ℕ-discrete}
-use native.Mathlib.Omega.{arith}
-use Rattle.protocol.specs.World.{View, World, Out, W, Starts, Delivers}
+use mathlib.Core.{Logic._≢_, Path.{_≡_, sym, ap, subst}}
+use native.Mathlib.{Decide.ℕ-discrete, Omega.arith}
+use Rattle.protocol.specs.{Counts.{made, begun}, Invariant.{none, Inv}}
 use Rattle.protocol.specs.Promise.{Writes, Reads, WriteComes, WriteWaits, ReadComes, ProceedComes}
-use Rattle.protocol.specs.Invariant.{none, Inv}
-use Rattle.protocol.specs.Counts.{made, begun}
-use Rattle.protocol.proofs.Around.{Acted, started, delivered}
-use Rattle.protocol.proofs.KeepingWrites.{wrote-keeps, write-came-keeps, write-came-most, write-waits-keeps}
-use Rattle.protocol.proofs.KeepingReads.{asked-keeps, read-came-keeps, proceed-came-keeps}
-use Rattle.protocol.proofs.Room.{reads-most}
-use Rattle.protocol.proofs.Deliveries.{wrote-made, wrote-begun, asked-made, asked-begun}
+use Rattle.protocol.specs.World.{View, World, Out, W, Starts, Delivers}
+use Rattle.protocol.proofs.{Around.{Acted, started, delivered}, Deliveries.{wrote-made, wrote-begun, asked-made, asked-begun}}
 use Rattle.protocol.proofs.Deliveries.{write-came-made, write-came-begun, write-waits-made, write-waits-begun}
 use Rattle.protocol.proofs.Deliveries.{read-came-made, read-came-begun, proceed-came-made, proceed-came-begun}
+use Rattle.protocol.proofs.KeepingReads.{asked-keeps, read-came-keeps, proceed-came-keeps}
+use Rattle.protocol.proofs.{KeepingWrites.{wrote-keeps, write-came-keeps, write-came-most, write-waits-keeps}, Room.reads-most}
 
 -- from s to s′ so many writes and reads were begun, and so many messages delivered
 pub record Stepped (n writer writes reads deliveries : ℕ) (s s′ : World) : Type 0 where

@@ -1,15 +1,11 @@
 -- The laws of sums over places, and over ordered pairs of two different places.
 -- Assumes nothing.
 use Prim.Native.Nat.{ℕ, zero, suc, _+_, _-_, _*_, _≤_, _<_}
-use mathlib.Core.Path.{_≡_, refl, sym, ap, ap₂, subst, _∙_}
-use mathlib.Core.Logic.{_≢_}
-use native.Mathlib.Decide.{ℕ-discrete}
-use native.Mathlib.Nat.{not-suc-le-zero}
-use native.Mathlib.Omega.{arith}
+use mathlib.Core.{Logic._≢_, Path.{_≡_, refl, sym, ap, ap₂, subst, _∙_}}
+use native.Mathlib.{Decide.ℕ-discrete, Nat.not-suc-le-zero, Omega.arith}
 use lib.Dec.{eqb}
 use borrow.Author.Tests.{eq-eqb, ne-eqb}
-use Rattle.basics.specs.Choice.{ite}
-use Rattle.basics.proofs.Choices.{ite-true, ite-false}
+use Rattle.basics.{proofs.Choices.{ite-true, ite-false}, specs.Choice.ite}
 use Rattle.protocol.specs.Counts.{sumBelow, sumPairs}
 
 -- ---- over places

@@ -1,16 +1,11 @@
 -- What a panel sends keeps its WRITEs in order, and so does one WRITE that it takes: it leaves the hand, and a held one comes into it.
 -- Assumes nothing.
 use Prim.Native.Nat.{ℕ, suc, _+_, _%_, _≤_, _<_}
-use mathlib.Core.Path.{_≡_, refl, sym, ap, subst}
-use mathlib.Core.Logic.{_≢_}
-use native.Mathlib.Decide.{ℕ-discrete}
-use native.Mathlib.Omega.{arith}
-use Rattle.protocol.specs.World.{View, Out, due}
-use Rattle.protocol.specs.Promise.{SendsDue, Takes}
-use Rattle.protocol.specs.Invariant.{Pair}
+use mathlib.Core.{Logic._≢_, Path.{_≡_, refl, sym, ap, subst}}
+use native.Mathlib.{Decide.ℕ-discrete, Omega.arith}
+use Rattle.protocol.specs.{Invariant.Pair, Promise.{SendsDue, Takes}, World.{View, Out, due}}
+use Rattle.protocol.proofs.{Around.{PairTo, PairFrom, WritesAround, from-same}, Coming.takes-own}
 use Rattle.protocol.proofs.Pairs.{pair-same, from-hand, sending, two-on}
-use Rattle.protocol.proofs.Coming.{takes-own}
-use Rattle.protocol.proofs.Around.{PairTo, PairFrom, WritesAround, from-same}
 
 module _ {n p writer most : ℕ} {them : ℕ → View} {arriving : ℕ → ℕ → ℕ} {w held hand : ℕ → ℕ} {leaving : Out}
     (v : WritesAround n p writer most them arriving w held hand leaving) where

@@ -2,13 +2,11 @@
 -- finds room.
 -- Assumes nothing.
 use Prim.Native.Nat.{ℕ, _+_, _-_, _≤_}
-use mathlib.Core.Path.{_≡_, refl, sym, ap, _∙_}
-use mathlib.Core.Logic.{_≢_}
+use mathlib.Core.{Logic._≢_, Path.{_≡_, refl, sym, ap, _∙_}}
 use native.Mathlib.Omega.{arith}
 use borrow.Author.Tests.{eq-eqb, ne-eqb, eqb-true}
 use Rattle.basics.proofs.Choices.{ite-true, ite-false, not-so, both-left, both-right, both-true}
-use Rattle.protocol.specs.World.{View, World, Out, Starts, Delivers}
-use Rattle.protocol.specs.Would.{acting, lacking}
+use Rattle.protocol.specs.{World.{View, World, Out, Starts, Delivers}, Would.{acting, lacking}}
 
 module _ (s : World) (p : ℕ) (b : View) (out : Out) where
   pub acting-own : acting s p b out .panel p ≡ b

@@ -1,8 +1,7 @@
 -- The invariant of every run from fresh. It says nothing of power.
 -- Assumes nothing.
 use Prim.Native.Nat.{ℕ, suc, _+_, _-_, _%_, _≤_, _<_, min}
-use mathlib.Core.Path.{_≡_}
-use mathlib.Core.Logic.{_≢_}
+use mathlib.Core.{Logic._≢_, Path._≡_}
 use Rattle.protocol.specs.World.{World, W, R, due}
 
 -- One ordered pair of panels: m WRITEs were ever sent and k were taken; near and far are how many of number k + 1 and k + 2 are

@@ -2,8 +2,7 @@
 -- panel before and `b` after; p is its own place, q the peer's; n is the number of panels.
 -- Assumes nothing.
 use Prim.Native.Nat.{ℕ, suc, _+_, _-_, _%_, _≤_, _<_, max}
-use mathlib.Core.Path.{_≡_}
-use mathlib.Core.Logic.{_≢_, _⊎_}
+use mathlib.Core.{Logic.{_≢_, _⊎_}, Path._≡_}
 use Rattle.protocol.specs.World.{View, Out, due}
 
 -- ---- what is sent

@@ -1,9 +1,8 @@
 -- A panel and a network in numbers alone: what demand 3 looks at, and nothing of how it is kept. Panel j stands at place j - 1.
 -- Kinds are those of the wire: 0 and 1 WRITE of that bit, 2 READ, 3 PROCEED.
 -- Assumes nothing.
-use Prim.Native.Nat.{ℕ, suc, _+_, _<_, min}
-use mathlib.Core.Path.{_≡_}
-use mathlib.Core.Logic.{_≢_}
+use Prim.Native.Nat.{ℕ, suc, _+_, min}
+use mathlib.Core.{Logic._≢_, Path._≡_}
 
 -- what a panel knows of place l: its write number, its read number, whether a WRITE of it is held (1) or not (0), and how many
 -- of its READs wait

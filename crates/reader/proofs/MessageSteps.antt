@@ -1,25 +1,18 @@
 -- The steps of a reader of messages: what the code goes by, and how the place moves. A refusal leaves it (`refused-stays`), no
 -- step passes the end (`never-past`), and messages that stand one behind the other are read so (`read-on`).
 -- Assumes nothing.
-use mathlib.Core.Path.{_≡_, refl, sym, ap, _∙_}
-use mathlib.Core.List.{List, _++_}
-use Prim.Native.Nat.{ℕ, suc, _+_, _-_, _≤_, _<_}
-use native.Mathlib.Nat.{add-zero}
-use native.Mathlib.Omega.{arith}
-use lib.ListN.{length, drop, length-append, length-drop}
-use lib.Seq.{drop-at}
+use mathlib.Core.{List.{List, _++_}, Path.{_≡_, refl, sym, ap, _∙_}}
+use Prim.Native.Nat.{ℕ, suc, _+_, _≤_, _<_}
+use native.Mathlib.{Nat.add-zero, Omega.arith}
+use lib.{ListN.{length, drop, length-append, length-drop}, Seq.drop-at}
 use denote.Ref.{RefT, now}
 use Rattle.codec.specs.Items.{itemAt}
 use Rattle.codec.specs.Items as Items
-use Rattle.wire.specs.declared.Taken.{Taken}
-use Rattle.wire.specs.declared.Taken.the-variants.{Message, Refused}
-use Rattle.wire.specs.Messages.{wire, bytesOfMessage, messageOf, reading}
-use Rattle.wire.proofs.Cases.{reading-none}
-use Rattle.wire.proofs.Laws.{read-written}
+use Rattle.wire.{proofs.Cases.reading-none, proofs.Laws.read-written, specs.Messages.{wire, bytesOfMessage, messageOf, reading}}
+use Rattle.wire.specs.declared.Taken.{Taken, the-variants.{Message, Refused}}
 use Rattle.wire.proofs.Laws as wired
-use Rattle.reader.specs.declared.wire_messages.Reader.{Reader}
+use Rattle.reader.specs.{Messages.{Next, usedOf, stepped, movedTo, next}, declared.wire_messages.Reader.Reader}
 use Rattle.reader.specs.declared.wire_messages.Step.{Step}
-use Rattle.reader.specs.Messages.{Next, usedOf, stepped, movedTo, next}
 use Rattle.reader.proofs.Places.{bytesUsed, behind-below}
 
 -- ---- what the code goes by

@@ -1,14 +1,11 @@
 -- The place of a reader, for any format of items: a refusal uses no byte, and an item none that is not there.
 -- Assumes nothing.
-use mathlib.Core.Path.{ap}
-use mathlib.Core.List.{List}
+use mathlib.Core.{List.List, Path.ap}
 use Prim.Native.Nat.{ℕ, _+_, _<_}
 use native.Mathlib.Omega.{arith}
 use lib.ListN.{length}
-use Rattle.codec.specs.Items.{Format, Taken, itemAt}
+use Rattle.codec.{proofs.Items.{Seen, seen}, proofs.Items.Seen.{none, unknown, cut, whole}, specs.Items.{Format, Taken, itemAt}}
 use Rattle.codec.specs.Items.Taken.{taken, refused}
-use Rattle.codec.proofs.Items.{Seen, seen}
-use Rattle.codec.proofs.Items.Seen.{none, unknown, cut, whole}
 
 unfoldable pub bytesUsed : Taken → ℕ
 bytesUsed (taken i n) = n

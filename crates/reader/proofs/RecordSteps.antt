@@ -2,22 +2,16 @@
 -- record moves it behind its last byte (`accepted-moves`), no step passes the end (`never-past`), and records that stand one behind
 -- the other are read so (`read-on`).
 -- Assumes nothing.
-use mathlib.Core.Path.{_≡_, refl, sym, ap, _∙_}
-use mathlib.Core.List.{List, _++_}
+use mathlib.Core.{List.{List, _++_}, Path.{_≡_, refl, sym, ap, _∙_}}
 use Prim.Native.Nat.{ℕ, suc, _+_, _≤_, _<_}
-use native.Mathlib.Nat.{add-zero}
-use native.Mathlib.Omega.{arith}
+use native.Mathlib.{Nat.add-zero, Omega.arith}
 use lib.ListN.{length, getD, length-append}
 use denote.Ref.{RefT, now}
 use Rattle.codec.specs.Items.{sizeOf, itemAt}
 use Rattle.codec.specs.Items as Items
-use Rattle.schedule.specs.declared.Record.{Record}
-use Rattle.schedule.specs.declared.Read.{Read}
-use Rattle.schedule.specs.Records.{records, bytesOfRecord, refusing, answered, reading}
 use Rattle.schedule.proofs.Laws.{Scheduled, read-written, refused-shows, accepted-used}
-use Rattle.reader.specs.declared.records.Reader.{Reader}
-use Rattle.reader.specs.declared.records.Step.{Step}
-use Rattle.reader.specs.Records.{Next, stepped, movedTo, next}
+use Rattle.schedule.specs.{Records.{records, bytesOfRecord, refusing, answered, reading}, declared.Read.Read, declared.Record.Record}
+use Rattle.reader.specs.{Records.{Next, stepped, movedTo, next}, declared.records.Reader.Reader, declared.records.Step.Step}
 use Rattle.reader.proofs.Places.{bytesUsed, behind-below}
 
 -- ---- what the code goes by

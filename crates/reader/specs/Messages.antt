@@ -5,11 +5,8 @@ use Prim.Native.Nat.{ℕ, _+_}
 use mathlib.Core.List.{List}
 use lib.ListN.{drop}
 use denote.Ref.{RefT, now}
-use Rattle.wire.specs.declared.Taken.{Taken}
-use Rattle.wire.specs.declared.Taken.the-variants.{Message, Refused}
-use Rattle.wire.specs.Messages.{reading}
-use Rattle.reader.specs.declared.wire_messages.Reader.{Reader}
-use Rattle.reader.specs.declared.wire_messages.Step.{Step}
+use Rattle.wire.specs.{Messages.reading, declared.Taken.Taken, declared.Taken.the-variants.{Message, Refused}}
+use Rattle.reader.specs.declared.wire_messages.{Reader.Reader, Step.Step}
 
 -- how many bytes a message used; a refusal uses none
 unfoldable pub usedOf : Taken → ℕ

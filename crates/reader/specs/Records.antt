@@ -3,10 +3,8 @@
 use Prim.Native.Nat.{ℕ, _+_}
 use mathlib.Core.List.{List}
 use denote.Ref.{RefT, now}
-use Rattle.schedule.specs.declared.Read.{Read}
-use Rattle.schedule.specs.Records.{reading}
-use Rattle.reader.specs.declared.records.Reader.{Reader}
-use Rattle.reader.specs.declared.records.Step.{Step}
+use Rattle.schedule.specs.{Records.reading, declared.Read.Read}
+use Rattle.reader.specs.declared.records.{Reader.Reader, Step.Step}
 
 -- what stands at a place, and the place behind it; a refusal uses no byte
 unfoldable pub stepped : List ℕ → ℕ → Step

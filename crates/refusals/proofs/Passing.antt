@@ -1,20 +1,13 @@
 -- What an event that no refusal meets has passed.
 -- Assumes nothing.
-use mathlib.Core.Path.{_≡_, sym, _∙_}
-use mathlib.Core.Bool.{Bool, true, false}
-use mathlib.Core.List.{[], _∷_, _++_}
-use mathlib.Core.Logic.{_≢_}
+use mathlib.Core.{Bool.{Bool, true, false}, List.{[], _∷_, _++_}, Logic._≢_, Path.{_≡_, sym, _∙_}}
 use Prim.Native.Nat.{ℕ, _+_, _-_, _≤_, _<_}
 use lib.Dec.{ltb, eqb, lit<}
 use borrow.Author.Tests.{lt-ltb, ltb-false, leb-false, eqb-false, not-true, not-false}
+use Rattle.basics.proofs.{Choices.{clash, not-so, ite-true, ite-false, both-left, both-right, both-true}, Refusals.{Passes, passed}}
 use Rattle.basics.specs.Refusal.{firstOf}
-use Rattle.basics.proofs.Choices.{clash, not-so, ite-true, ite-false, both-left, both-right, both-true}
-use Rattle.basics.proofs.Refusals.{Passes, passed}
 use Rattle.tables.specs.Places.{wAt, rAt, lineAt}
-use Rattle.form.specs.declared.Tables.{Tables}
-use Rattle.form.specs.Setting.{ownW, ownR}
-use Rattle.form.specs.Form.{inForm, atWriter}
-use Rattle.form.proofs.InForm.{panel-iff}
+use Rattle.form.{proofs.InForm.panel-iff, specs.Form.{inForm, atWriter}, specs.Setting.{ownW, ownR}, specs.declared.Tables.Tables}
 use Rattle.refusals.specs.Refusals.{isPeer, isIdle, rightBit, tooHigh, stray, lineFull, firstTrials, peerTrials, writeTrials, readTrials, writeFromTrials, readFromTrials, proceedFromTrials}
 
 -- a write may start

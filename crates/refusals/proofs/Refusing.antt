@@ -1,23 +1,16 @@
 -- The ways out of the refusals, for their code: each number where its test is the first that comes out true.
 -- Assumes nothing.
-use mathlib.Core.Path.{_≡_, refl, sym, ap, ap₂, _∙_}
-use mathlib.Core.Bool.{Bool, true, false, not}
-use mathlib.Core.List.{List, [], _∷_, _++_}
-use mathlib.Core.Logic.{_≢_}
-use Prim.Native.Nat.{ℕ, _+_, _-_, _≤_, _<_}
+use mathlib.Core.{Bool.{Bool, true, false, not}, List.{List, [], _∷_, _++_}, Logic._≢_, Path.{_≡_, refl, sym, ap, ap₂, _∙_}}
+use Prim.Native.Nat.{ℕ, _-_, _≤_, _<_}
 use native.Mathlib.Omega.{arith}
-use lib.Dec.{leb, ltb, eqb, lit<}
+use lib.Dec.{leb, ltb, lit<}
 use borrow.Author.Tests.{lt-ltb, le-ltb, le-leb, lt-leb, eq-eqb, ne-eqb, not-false}
-use Rattle.basics.specs.Choice.{both}
+use Rattle.basics.{proofs.Refusals.{Numbered, passed, first-given, first-not, first-past, first-stops, first-none}, specs.Choice.both}
 use Rattle.basics.specs.Refusal.{Trial, firstOf}
-use Rattle.basics.proofs.Refusals.{Numbered, passed, first-given, first-not, first-past, first-stops, first-none}
 use Rattle.tables.specs.Places.{wAt, rAt, lineAt}
+use Rattle.form.{proofs.InForm.{InForm, form-view, sized}, specs.Asked.Sized, specs.Form.{inForm, atWriter}, specs.Setting.{ownW, ownR}}
 use Rattle.form.specs.declared.Tables.{Tables}
-use Rattle.form.specs.Setting.{ownW, ownR}
-use Rattle.form.specs.Form.{inForm, atWriter}
 use Rattle.refusals.specs.Refusals.{isPeer, isIdle, stray, lineFull, firstTrials, peerTrials, writeTrials, readTrials, writeFromTrials, readFromTrials, proceedFromTrials}
-use Rattle.form.specs.Asked.{Sized}
-use Rattle.form.proofs.InForm.{InForm, form-view, sized}
 use Rattle.refusals.proofs.Passing.{MayCome, may-come}
 
 module _ (p : Tables) (room : ℕ) where

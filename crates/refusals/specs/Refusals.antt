@@ -1,18 +1,12 @@
 -- The events at one panel, and which refusals each meets, in the order in which they are tried.
 -- Assumes nothing.
 use Prim.Native.Nat.{ℕ, _+_, _-_, _%_}
-use mathlib.Core.Bool.{Bool, true, false, not}
-use mathlib.Core.List.{List, [], _∷_, _++_}
+use mathlib.Core.{Bool.{Bool, true, false, not}, List.{List, [], _∷_, _++_}}
 use lib.Dec.{leb, ltb, eqb}
-use Rattle.basics.specs.Choice.{ite, both}
-use Rattle.basics.specs.Below.{oneIf}
-use Rattle.basics.specs.Refusal.{Trial, refuse, firstOf}
+use Rattle.basics.specs.{Below.oneIf, Choice.{ite, both}, Refusal.{Trial, refuse, firstOf}}
 use Rattle.tables.specs.Places.{wAt, rAt, holdAt, lineAt}
-use Rattle.form.specs.declared.Operation.{Operation}
-use Rattle.form.specs.declared.Operation.the-variants.{Idle, Writing, FirstWait, SecondWait}
-use Rattle.form.specs.declared.Tables.{Tables}
-use Rattle.form.specs.Setting.{ownW, ownR}
-use Rattle.form.specs.Form.{inForm, isPanel, atWriter}
+use Rattle.form.specs.{Form.{inForm, isPanel, atWriter}, Setting.{ownW, ownR}, declared.Operation.Operation}
+use Rattle.form.specs.declared.{Operation.the-variants.{Idle, Writing, FirstWait, SecondWait}, Tables.Tables}
 
 pub data Event : Type 0 where
   write : ℕ → Event

@@ -1,23 +1,14 @@
 -- "Each message in flight to a powered panel is accepted when delivered." And a start is accepted where the panel accepts it.
 -- Assumes nothing.
 use Prim.Native.Nat.{ℕ, _-_}
-use mathlib.Core.Path.{_≡_}
-use mathlib.Core.Bool.{true}
+use mathlib.Core.{Bool.true, Path._≡_}
 use native.Mathlib.Omega.{arith}
-use Rattle.refusals.specs.Refusals.{refusal}
-use Rattle.refusals.specs.Refusals.Event.{write, read}
+use Rattle.refusals.specs.Refusals.{refusal, Event.{write, read}}
 use Rattle.promise.specs.View.{codeOf}
-use Rattle.house.specs.declared.Network.{Network}
-use Rattle.house.specs.Places.{tablesAt, writerOf}
-use Rattle.house.specs.Search.{firstIn}
-use Rattle.steps.specs.Steps.{writeIn, readIn, deliverIn}
-use Rattle.steps.specs.Drain.{nextIn}
-use Rattle.steps.proofs.Passing.{MayWrite, MayRead, MayDeliver}
-use Rattle.steps.proofs.Accepting.{write-accepted, read-accepted, deliver-accepted}
-use Rattle.steps.proofs.Draining.{next-may}
-use Rattle.runs.proofs.Holding.{Holds}
-use Rattle.runs.proofs.Taking.{message-taken}
-use Rattle.runs.proofs.Sparing.{write-spare, read-spare, deliver-spare}
+use Rattle.house.specs.{Places.{tablesAt, writerOf}, Search.firstIn, declared.Network.Network}
+use Rattle.steps.proofs.{Accepting.{write-accepted, read-accepted, deliver-accepted}, Draining.next-may}
+use Rattle.steps.{proofs.Passing.{MayWrite, MayRead, MayDeliver}, specs.Drain.nextIn, specs.Steps.{writeIn, readIn, deliverIn}}
+use Rattle.runs.proofs.{Holding.Holds, Sparing.{write-spare, read-spare, deliver-spare}, Taking.message-taken}
 
 module _ (s : Network) (h : Holds s) where
   pub write-ok : (v : ℕ) → MayWrite s → refusal (tablesAt s (writerOf s - 1)) 107 (write v) ≡ 0 → codeOf (writeIn s v .answer) ≡ 0

@@ -1,23 +1,14 @@
 -- A drain in a run from fresh: it is never refused, and it is so many accepted deliveries.
 -- Assumes nothing.
-use Prim.Native.Nat.{ℕ, zero, suc, _+_, _≤_, _<_}
-use mathlib.Core.Path.{_≡_, refl, sym, ap, subst, _∙_}
-use mathlib.Core.Bool.{true, false}
-use mathlib.Core.Logic.{_≢_}
+use Prim.Native.Nat.{ℕ, zero, suc, _+_}
+use mathlib.Core.Path.{_≡_, refl, ap, subst, _∙_}
 use native.Mathlib.Omega.{arith}
 use Rattle.promise.specs.View.{codeOf}
-use Rattle.house.specs.declared.Network.{Network}
-use Rattle.house.specs.Search.{firstIn}
-use Rattle.steps.specs.declared.Drained.{Drained}
-use Rattle.steps.specs.Drain.{nextIn, drainBy, drained}
-use Rattle.steps.specs.Numbers.{loadOf}
-use Rattle.steps.specs.Moves.{Deliveries, none, more, SameSetUp}
-use Rattle.steps.proofs.Draining.{by-case}
-use Rattle.steps.proofs.WholeDrain.{drained-is, drained-deliveries, drained-still}
+use Rattle.house.specs.{Search.firstIn, declared.Network.Network}
+use Rattle.steps.proofs.{Draining.by-case, WholeDrain.{drained-is, drained-deliveries, drained-still}}
+use Rattle.steps.specs.{Drain.{nextIn, drainBy, drained}, Moves.{Deliveries, none, more}, Numbers.loadOf, declared.Drained.Drained}
 use Rattle.runs.specs.Claims.{Still}
-use Rattle.runs.proofs.Holding.{Holds, Went, went-none, deliver-went}
-use Rattle.runs.proofs.Accepting.{next-ok}
-use Rattle.runs.proofs.Quieting.{still-searched}
+use Rattle.runs.proofs.{Accepting.next-ok, Holding.{Holds, Went, went-none, deliver-went}, Quieting.still-searched}
 
 pub went-then : {a b r t d e : ℕ} {s s₁ s₂ : Network} → Went a r d s s₁ → Went b t e s₁ s₂ → Went (a + b) (r + t) (d + e) s s₂
 went-then x y =

@@ -1,38 +1,22 @@
 -- Demand 3: what is true after any list of steps from a fresh network, n, t and writer that fit, and any initial value.
 -- Assumes nothing.
 use Prim.Native.Nat.{ℕ, _+_, _-_, _*_, _≤_, _<_}
-use mathlib.Core.Path.{_≡_, refl, sym, ap, subst, subst₂, _∙_}
-use mathlib.Core.Bool.{true, false}
-use mathlib.Core.List.{List}
+use mathlib.Core.{Bool.{true, false}, List.List, Path.{_≡_, refl, sym, ap, subst, subst₂, _∙_}}
 use native.Mathlib.Omega.{arith}
 use borrow.Author.Tests.{not-true}
-use Rattle.form.specs.declared.Operation.the-variants.{Idle}
-use Rattle.form.specs.Form.{fits}
+use Rattle.form.specs.{Form.fits, declared.Operation.the-variants.Idle}
+use Rattle.protocol.{proofs.AtFirst.{Fresh, fresh-inv, fresh-begun, fresh-made}, proofs.Deliveries.made-most, specs.Invariant.{none, Inv}}
 use Rattle.protocol.specs.World.{W}
-use Rattle.protocol.specs.Invariant.{none, Inv}
 use Rattle.protocol.specs.Counts as counts
-use Rattle.protocol.proofs.AtFirst.{Fresh, fresh-inv, fresh-begun, fresh-made}
-use Rattle.protocol.proofs.Deliveries.{made-most}
 use Rattle.promise.specs.View.{codeOf}
 use Rattle.channels.specs.Channels.{has}
+use Rattle.house.{proofs.Searching.Pair, specs.Places.{tablesAt, channelOf, downAt, nOf, writerOf}, specs.Search.live}
 use Rattle.house.specs.declared.Network.{Network}
-use Rattle.house.specs.Places.{tablesAt, channelOf, downAt, nOf, writerOf}
-use Rattle.house.specs.Search.{live}
-use Rattle.house.proofs.Searching.{Pair}
-use Rattle.steps.specs.declared.Stepped.{Stepped}
-use Rattle.steps.specs.Steps.{delivered}
-use Rattle.steps.specs.Drain.{drained}
-use Rattle.steps.specs.Numbers.{worldOf}
-use Rattle.steps.specs.SetUp.{freshNetwork}
-use Rattle.steps.proofs.Networks.{good-test, writer-place}
-use Rattle.steps.proofs.Settling.{checked-in-form}
-use Rattle.steps.proofs.AtStart.{start-good, start-n, start-waits, start-fresh}
-use Rattle.runs.specs.Runs.{Step, after, entries, writes, reads, deliveries}
-use Rattle.runs.specs.Claims.{Still, AllOrdinary, mostDeliveries}
-use Rattle.runs.proofs.Holding.{Holds}
-use Rattle.runs.proofs.Accepting.{deliver-ok}
-use Rattle.runs.proofs.Quieting.{quiet-idle}
-use Rattle.runs.proofs.Draining.{drain-taken, drain-went, drain-still}
+use Rattle.steps.proofs.{AtStart.{start-good, start-n, start-waits, start-fresh}, Networks.{good-test, writer-place}}
+use Rattle.steps.{proofs.Settling.checked-in-form, specs.Drain.drained, specs.Numbers.worldOf, specs.SetUp.freshNetwork}
+use Rattle.steps.specs.{Steps.delivered, declared.Stepped.Stepped}
+use Rattle.runs.specs.{Claims.{Still, AllOrdinary, mostDeliveries}, Runs.{Step, after, entries, writes, reads, deliveries}}
+use Rattle.runs.proofs.{Accepting.deliver-ok, Draining.{drain-taken, drain-went, drain-still}, Holding.Holds, Quieting.quiet-idle}
 use Rattle.runs.proofs.Running.{Runs, run-holds}
 
 is-down : (s : Network) (j : ℕ) → live s j ≡ true → downAt s j ≡ false

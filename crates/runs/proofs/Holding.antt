@@ -1,25 +1,18 @@
 -- What holds of a network in every run from fresh, and that every accepted step keeps it and moves the counts of writes, reads and
 -- deliveries as it should.
 -- Assumes nothing.
-use Prim.Native.Nat.{ℕ, suc, _+_, _-_, _<_}
-use mathlib.Core.Path.{_≡_, refl, sym, ap, subst, subst₂, _∙_}
-use mathlib.Core.Logic.{_≢_}
+use Prim.Native.Nat.{ℕ, _+_, _-_, _<_}
+use mathlib.Core.{Logic._≢_, Path.{_≡_, refl, sym, ap, subst, subst₂, _∙_}}
 use native.Mathlib.Omega.{arith}
-use Rattle.protocol.specs.World.{World, Out, W, Starts, Delivers}
-use Rattle.protocol.specs.Invariant.{none, Inv}
-use Rattle.protocol.specs.Counts.{made, begun}
+use Rattle.protocol.specs.{Counts.{made, begun}, Invariant.{none, Inv}, World.{World, Out, W, Delivers}}
 use Rattle.protocol.proofs.Steps as protocol
 use Rattle.promise.specs.View.{codeOf}
-use Rattle.house.specs.declared.Network.{Network}
-use Rattle.house.specs.Places.{nOf, writerOf}
-use Rattle.steps.specs.Steps.{writeIn, readIn, deliverIn, loseIn}
-use Rattle.steps.specs.Numbers.{worldOf}
-use Rattle.steps.specs.Moves.{Came, write-comes, write-waits, read-comes, proceed-comes, AllWait, SameSetUp, deliverOut}
-use Rattle.steps.proofs.Networks.{Good, writer-place}
-use Rattle.steps.proofs.Keeping.{Kept, write-kept, read-kept, deliver-kept, lose-kept}
-use Rattle.steps.proofs.Moves.{WriteMoves, write-moves, ReadMoves, read-moves, lose-moves}
-use Rattle.steps.proofs.Delivering.{DeliverMoves, deliver-moves}
+use Rattle.house.specs.{Places.{nOf, writerOf}, declared.Network.Network}
+use Rattle.steps.proofs.{Delivering.{DeliverMoves, deliver-moves}, Keeping.{Kept, write-kept, read-kept, deliver-kept, lose-kept}}
+use Rattle.steps.proofs.{Moves.{WriteMoves, write-moves, ReadMoves, read-moves, lose-moves}, Networks.{Good, writer-place}}
 use Rattle.steps.proofs.Passing.{sender-place, receiver-place, places-apart}
+use Rattle.steps.specs.{Moves.{Came, write-comes, write-waits, read-comes, proceed-comes, AllWait, SameSetUp}, Numbers.worldOf}
+use Rattle.steps.specs.Steps.{writeIn, readIn, deliverIn, loseIn}
 
 pub record Holds (s : Network) : Type 0 where
   pub good : Good s

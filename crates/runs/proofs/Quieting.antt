@@ -1,28 +1,17 @@
 -- "Whenever no message is in flight to a powered panel, no powered panel has an unfinished operation."
 -- Assumes nothing.
-use Prim.Native.Nat.{ℕ, _+_, _≤_, _<_}
-use mathlib.Core.Path.{_≡_, refl, sym, ap, subst, _∙_}
-use mathlib.Core.Bool.{Bool, true, false}
-use mathlib.Core.Logic.{_≢_}
-use native.Mathlib.Decide.{decLt}
-use native.Mathlib.Omega.{arith}
+use Prim.Native.Nat.{ℕ, _<_}
+use mathlib.Core.{Bool.{true, false}, Logic._≢_, Path.{_≡_, ap, _∙_}}
+use native.Mathlib.{Decide.decLt, Omega.arith}
 use Rattle.basics.proofs.Choices.{clash}
 use Rattle.tables.specs.Marks.{enough}
 use Rattle.form.specs.declared.Operation.the-variants.{Idle}
-use Rattle.protocol.specs.World.{W, R}
-use Rattle.protocol.proofs.Quiet.{all-known, all-answered}
-use Rattle.promise.specs.View.{viewOf}
+use Rattle.protocol.{proofs.Quiet.{all-known, all-answered}, specs.World.W}
 use Rattle.promise.proofs.AtPlace.{at-idle}
-use Rattle.channels.specs.declared.Channel.{Channel}
-use Rattle.channels.specs.Channels.{has, inFlight}
-use Rattle.channels.proofs.Flying.{has-iff}
-use Rattle.house.specs.declared.Network.{Network}
-use Rattle.house.specs.Places.{panelAt, tablesAt, channelOf, nOf, tOf}
-use Rattle.house.specs.Search.{live, firstIn}
-use Rattle.house.proofs.NetForms.{live-enough}
-use Rattle.house.proofs.Searching.{none-found}
-use Rattle.steps.specs.Numbers.{worldOf}
-use Rattle.steps.proofs.Networks.{Good, at-place, place-seven, formed-place}
+use Rattle.channels.{proofs.Flying.has-iff, specs.Channels.{has, inFlight}, specs.declared.Channel.Channel}
+use Rattle.house.{proofs.NetForms.live-enough, proofs.Searching.none-found, specs.Places.{panelAt, tablesAt, channelOf, nOf}}
+use Rattle.house.specs.{Search.{live, firstIn}, declared.Network.Network}
+use Rattle.steps.{proofs.Networks.{Good, at-place, place-seven, formed-place}, specs.Numbers.worldOf}
 use Rattle.runs.specs.Claims.{Still}
 use Rattle.runs.proofs.Holding.{Holds}
 

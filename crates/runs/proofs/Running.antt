@@ -1,28 +1,22 @@
 -- Every step of a run, and every run: what holds of the network is kept, the counts by the tables are the counts by the answers, and no
 -- answer is 2 or 11 to 14.
 -- Assumes nothing.
-use Prim.Native.Nat.{ℕ, zero, suc, _+_, _≤_, _<_}
-use mathlib.Core.Path.{_≡_, refl, sym, ap, subst, _∙_}
-use mathlib.Core.List.{List, [], _∷_}
-use mathlib.Core.Logic.{_≢_}
+use Prim.Native.Nat.{ℕ}
+use mathlib.Core.{List.{List, [], _∷_}, Logic._≢_, Path.{_≡_, refl, sym, ap, subst, _∙_}}
 use native.Mathlib.Omega.{arith}
 use lib.Dec.{eqb}
 use borrow.Author.Tests.{eq-eqb, ne-eqb}
-use Rattle.basics.specs.Choice.{ite}
-use Rattle.basics.proofs.Choices.{ite-true, ite-false}
+use Rattle.basics.{proofs.Choices.{ite-true, ite-false}, specs.Choice.ite}
 use Rattle.promise.specs.View.{codeOf}
 use Rattle.house.specs.declared.Network.{Network}
+use Rattle.steps.{proofs.Networks.good-test, proofs.Settling.{code-refused, checked-in-form}, specs.Steps.{written, begun, delivered, lost}}
 use Rattle.steps.specs.declared.Stepped.{Stepped}
-use Rattle.steps.specs.Steps.{written, begun, delivered, lost, refusedBy}
-use Rattle.steps.specs.Drain.{drained}
-use Rattle.steps.proofs.Networks.{good-test}
-use Rattle.steps.proofs.Settling.{code-refused, checked-in-form}
-use Rattle.runs.specs.Runs.{Step, Did, did, emptied, does, after, Entry, entries, isWrite, isRead, writes, reads, deliveries}
-use Rattle.runs.specs.Runs.Step.{write, read, deliver, lose, drain}
 use Rattle.runs.specs.Claims.{Ordinary, AllOrdinary, none, more}
+use Rattle.runs.specs.Runs.{Step, Did, did, emptied, does, after, entries, isWrite, isRead, writes, reads, deliveries}
+use Rattle.runs.specs.Runs.Step.{write, read, deliver, lose, drain}
+use Rattle.runs.proofs.Draining.{went-then, drain-taken, drain-went}
 use Rattle.runs.proofs.Holding.{Holds, Went, went-none, write-went, read-went, deliver-went, lose-went}
 use Rattle.runs.proofs.Stepping.{Judged, accepted, refused, ordinary-0, write-judged, read-judged, deliver-judged, lose-judged}
-use Rattle.runs.proofs.Draining.{went-then, drain-taken, drain-went}
 
 went-as : {a b r t d e : ℕ} {s s′ : Network} → a ≡ b → r ≡ t → d ≡ e → Went a r d s s′ → Went b t e s s′
 went-as p q u w =

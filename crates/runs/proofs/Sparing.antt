@@ -1,34 +1,21 @@
 -- All that a panel sends finds room: 14 never occurs in a run from fresh. The invariant of the world that a step would come to says so.
 -- Assumes nothing.
-use Prim.Native.Nat.{ℕ, suc, _+_, _-_, _≤_, _<_}
-use mathlib.Core.Path.{_≡_, refl, sym, ap, subst, _∙_}
-use mathlib.Core.Logic.{_≢_}
-use native.Mathlib.Decide.{ℕ-discrete, decLt}
-use native.Mathlib.Omega.{arith}
-use Rattle.refusals.specs.Refusals.{Event, refusal}
-use Rattle.refusals.specs.Refusals.Event.{write, read}
-use Rattle.panel.specs.declared.Panel.{Panel}
+use Prim.Native.Nat.{ℕ, _+_, _-_, _≤_, _<_}
+use mathlib.Core.{Logic._≢_, Path.{_≡_, refl, sym, subst, _∙_}}
+use native.Mathlib.{Decide.{ℕ-discrete, decLt}, Omega.arith}
+use Rattle.refusals.specs.Refusals.{Event, refusal, Event.{write, read}}
 use Rattle.panel.specs.Calls.{after}
-use Rattle.protocol.specs.World.{View, World, Out, W, R, Starts, Delivers}
-use Rattle.protocol.specs.Promise.{Writes, Reads}
-use Rattle.protocol.specs.Invariant.{none, Inv}
+use Rattle.protocol.proofs.{Room.{one-write, reads-most, proceeds-most}, WouldBe.{acting-own, would-start, lacking-panel, would-deliver}}
+use Rattle.protocol.specs.{Invariant.{none, Inv}, Promise.{Writes, Reads}, World.{View, World, Out, R, Starts, Delivers}}
 use Rattle.protocol.specs.Would.{acting, lacking}
-use Rattle.protocol.proofs.WouldBe.{acting-own, would-start, lacking-panel, would-deliver}
-use Rattle.protocol.proofs.Room.{one-write, reads-most, proceeds-most}
 use Rattle.protocol.proofs.Steps as protocol
-use Rattle.promise.specs.View.{viewOf, outOf}
-use Rattle.promise.proofs.AtPlace.{At, at-formed, at-after, at-write, at-read}
-use Rattle.channels.specs.Channels.{valueIn}
-use Rattle.channels.proofs.Flying.{cap, cap-write, cap-other, has-known}
-use Rattle.house.specs.declared.Network.{Network}
-use Rattle.house.specs.Places.{panelAt, tablesAt, channelOf, nOf, writerOf}
-use Rattle.steps.specs.Numbers.{worldOf}
-use Rattle.steps.specs.Moves.{Came, arriving, writeOut, readOut, deliverOut}
-use Rattle.steps.proofs.Networks.{Good, at-place, writer-place, formed-place}
+use Rattle.promise.{proofs.AtPlace.{at-formed, at-after, at-write, at-read}, specs.View.viewOf}
+use Rattle.channels.{proofs.Flying.{cap, cap-write, cap-other, has-known}, specs.Channels.valueIn}
+use Rattle.house.specs.{Places.{panelAt, tablesAt, channelOf, nOf, writerOf}, declared.Network.Network}
+use Rattle.steps.proofs.{Arriving.message-came, Networks.{Good, at-place, writer-place, formed-place}}
 use Rattle.steps.proofs.Passing.{sender-place, receiver-place, places-apart, MayDeliver}
-use Rattle.steps.proofs.Arriving.{message-came}
-use Rattle.runs.proofs.Holding.{Holds, came-steps}
-use Rattle.runs.proofs.Taking.{message-flies, message-taken}
+use Rattle.steps.specs.{Moves.{Came, arriving, writeOut, readOut, deliverOut}, Numbers.worldOf}
+use Rattle.runs.proofs.{Holding.{Holds, came-steps}, Taking.{message-flies, message-taken}}
 
 -- what flies from place p, and what is sent, is no more than its channels take
 abbrev pub Spare : ℕ → ℕ → World → Out → Type 0

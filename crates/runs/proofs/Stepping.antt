@@ -1,38 +1,19 @@
 -- Each step of a run: what it keeps, how it moves the counts, and which refusals it may be given.
 -- Assumes nothing.
-use Prim.Native.Nat.{ℕ, zero, suc, _+_, _-_, _≤_, _<_}
-use mathlib.Core.Path.{_≡_, refl, sym, ap, subst, _∙_}
-use mathlib.Core.Bool.{Bool, true, false}
-use mathlib.Core.List.{List, [], _∷_}
-use mathlib.Core.Logic.{_≢_}
-use native.Mathlib.Decide.{ℕ-discrete}
-use native.Mathlib.Omega.{arith}
-use lib.Dec.{eqb}
-use borrow.Author.Tests.{eq-eqb, ne-eqb}
-use Rattle.basics.specs.Choice.{ite}
-use Rattle.basics.specs.Refusal.{Trial, firstOf}
-use Rattle.basics.proofs.Choices.{ite-true, ite-false, ite-case}
-use Rattle.refusals.specs.Refusals.{refusal}
+use Prim.Native.Nat.{ℕ, _-_, _≤_}
+use mathlib.Core.{List.{List, [], _∷_}, Logic._≢_, Path.{_≡_, sym, ap, subst, _∙_}}
+use native.Mathlib.{Decide.ℕ-discrete, Omega.arith}
+use Rattle.basics.{proofs.Choices.ite-case, specs.Refusal.{Trial, firstOf}}
 use Rattle.refusals.specs.Refusals.Event.{write, read}
-use Rattle.panel.specs.declared.Next.{Next}
-use Rattle.panel.specs.Calls.{after}
-use Rattle.promise.specs.View.{codeOf}
-use Rattle.promise.proofs.Answers.{write-refusal, read-refusal}
-use Rattle.promise.proofs.AfterEvents.{after-code}
-use Rattle.house.specs.declared.Network.{Network}
-use Rattle.house.specs.Places.{panelAt, tablesAt, nOf, writerOf}
+use Rattle.panel.specs.{Calls.after, declared.Next.Next}
+use Rattle.promise.{proofs.AfterEvents.after-code, proofs.Answers.{write-refusal, read-refusal}, specs.View.codeOf}
+use Rattle.house.specs.{Places.{panelAt, writerOf}, declared.Network.Network}
+use Rattle.steps.proofs.{Networks.writer-place, Passing.{MayRead, may-write, may-read, may-deliver}}
+use Rattle.steps.proofs.Settling.{code-nothing, tried-passed, tried-refused, settled-refused}
+use Rattle.steps.specs.Steps.{writeTrials, readTrials, deliverTrials, loseTrials, writeIn, readIn, deliverIn, loseIn, refusedBy, tried, settled}
 use Rattle.steps.specs.declared.Stepped.{Stepped}
-use Rattle.steps.specs.declared.Drained.{Drained}
-use Rattle.steps.specs.Steps.{writeTrials, readTrials, deliverTrials, loseTrials, writeIn, readIn, deliverIn, loseIn, refusedBy, tried, settled, checked}
-use Rattle.steps.specs.Drain.{drained, nextIn}
-use Rattle.steps.specs.Moves.{Deliveries, none, more}
-use Rattle.steps.proofs.Networks.{Good, good-test, writer-place}
-use Rattle.steps.proofs.Settling.{code-refused, code-nothing, checked-in-form, tried-passed, tried-refused, settled-refused}
-use Rattle.steps.proofs.Passing.{MayRead, may-write, may-read, may-deliver}
-use Rattle.steps.proofs.WholeDrain.{drained-deliveries, drained-refused}
 use Rattle.runs.specs.Claims.{Ordinary}
-use Rattle.runs.proofs.Holding.{Holds, Went, went-none, write-went, read-went, deliver-went, lose-went}
-use Rattle.runs.proofs.Accepting.{write-ok, read-ok, deliver-ok}
+use Rattle.runs.proofs.{Accepting.{write-ok, read-ok, deliver-ok}, Holding.Holds}
 
 -- ---- refusals
 

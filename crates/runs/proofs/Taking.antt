@@ -1,28 +1,16 @@
 -- A panel takes every message that is in flight to it: 11, 12 and 13 never occur in a run from fresh.
 -- Assumes nothing.
 use Prim.Native.Nat.{ℕ, suc, _+_, _-_, _%_, _≤_, _<_}
-use mathlib.Core.Path.{_≡_, refl, sym, ap, subst, _∙_}
-use mathlib.Core.Bool.{Bool, true, false}
-use mathlib.Core.Logic.{_≢_}
-use native.Mathlib.Decide.{ℕ-discrete}
-use native.Mathlib.Omega.{arith}
+use mathlib.Core.{Bool.{Bool, true, false}, Path.{_≡_, sym, ap, subst, _∙_}}
+use native.Mathlib.{Decide.ℕ-discrete, Omega.arith}
 use Rattle.basics.specs.Below.{oneIf}
-use Rattle.refusals.specs.Refusals.{Event, refusal}
-use Rattle.refusals.specs.Refusals.Event.{writeFrom, readFrom, proceedFrom}
-use Rattle.protocol.specs.World.{World, W, R}
-use Rattle.protocol.proofs.Never.{next-written, after-next-written, hold-free, read-open, line-free}
-use Rattle.promise.specs.View.{viewOf}
-use Rattle.promise.proofs.AtPlace.{At, at-write-from-accepted, at-write-held-accepted, at-read-from-accepted, at-proceed-from-accepted}
-use Rattle.channels.specs.Channels.{inFlight}
-use Rattle.channels.proofs.ByKind.{kind-case}
-use Rattle.channels.proofs.Flying.{has-iff, has-known}
-use Rattle.house.specs.declared.Network.{Network}
-use Rattle.house.specs.Places.{panelAt, tablesAt, channelOf, nOf, writerOf}
-use Rattle.steps.specs.Steps.{comes}
-use Rattle.steps.specs.Numbers.{worldOf}
-use Rattle.steps.specs.Moves.{arriving}
-use Rattle.steps.proofs.Networks.{Good, at-place, writer-place, formed-place}
-use Rattle.steps.proofs.Passing.{sender-place, receiver-place, places-apart, MayDeliver}
+use Rattle.refusals.specs.Refusals.{Event, refusal, Event.{writeFrom, readFrom, proceedFrom}}
+use Rattle.protocol.{proofs.Never.{next-written, after-next-written, hold-free, read-open, line-free}, specs.World.W}
+use Rattle.promise.proofs.AtPlace.{at-write-from-accepted, at-write-held-accepted, at-read-from-accepted, at-proceed-from-accepted}
+use Rattle.channels.proofs.{ByKind.kind-case, Flying.{has-iff, has-known}}
+use Rattle.house.specs.{Places.{panelAt, tablesAt, channelOf, nOf, writerOf}, declared.Network.Network}
+use Rattle.steps.proofs.{Networks.{at-place, writer-place, formed-place}, Passing.{sender-place, receiver-place, places-apart, MayDeliver}}
+use Rattle.steps.specs.{Moves.arriving, Numbers.worldOf, Steps.comes}
 use Rattle.runs.proofs.Holding.{Holds}
 
 module _ (s : Network) (h : Holds s) (k i j : ℕ) (m : MayDeliver s k i j) where

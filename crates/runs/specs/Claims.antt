@@ -1,14 +1,9 @@
 -- What is said of every run from fresh.
 -- Assumes nothing.
 use Prim.Native.Nat.{ℕ, _+_, _-_, _*_, _<_}
-use mathlib.Core.Path.{_≡_}
-use mathlib.Core.Bool.{true, false}
-use mathlib.Core.List.{List, [], _∷_}
-use mathlib.Core.Logic.{_≢_}
+use mathlib.Core.{Bool.{true, false}, List.{List, [], _∷_}, Logic._≢_, Path._≡_}
 use Rattle.channels.specs.Channels.{has}
-use Rattle.house.specs.declared.Network.{Network}
-use Rattle.house.specs.Places.{channelOf, nOf}
-use Rattle.house.specs.Search.{live}
+use Rattle.house.specs.{Places.{channelOf, nOf}, Search.live, declared.Network.Network}
 use Rattle.runs.specs.Runs.{Entry}
 
 -- no message is in flight to a powered panel

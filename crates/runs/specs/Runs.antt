@@ -1,18 +1,13 @@
 -- A run: a list of steps, one after the other, each a call of the network. A refused step changes nothing. What a run did is read
 -- off the steps and their answers alone.
 -- Assumes nothing.
-use Prim.Native.Nat.{ℕ, zero, suc, _+_}
+use Prim.Native.Nat.{ℕ, _+_}
 use mathlib.Core.List.{List, [], _∷_}
 use lib.Dec.{eqb}
 use Rattle.basics.specs.Choice.{ite}
-use Rattle.events.specs.declared.Answer.{Answer}
-use Rattle.events.specs.declared.Answer.the-variants.{Nothing}
 use Rattle.promise.specs.View.{codeOf}
 use Rattle.house.specs.declared.Network.{Network}
-use Rattle.steps.specs.declared.Stepped.{Stepped}
-use Rattle.steps.specs.declared.Drained.{Drained}
-use Rattle.steps.specs.Steps.{written, begun, delivered, lost}
-use Rattle.steps.specs.Drain.{drained}
+use Rattle.steps.specs.{Drain.drained, Steps.{written, begun, delivered, lost}, declared.Drained.Drained, declared.Stepped.Stepped}
 
 -- starts, a delivery (kind, sender, receiver), power loss, drain
 pub data Step : Type 0 where

@@ -1,22 +1,15 @@
 -- The cases of reading and writing a record, one law each: what the code's proofs cite.
 -- Assumes nothing.
-use mathlib.Core.Path.{_≡_, refl, sym, ap, ap₂, _∙_}
-use mathlib.Core.Bool.{Bool, true, false}
-use mathlib.Core.List.{List, [], _∷_, _++_, append-nil}
+use mathlib.Core.{Bool.{Bool, true, false}, List.{List, [], _∷_, _++_, append-nil}, Path.{_≡_, refl, sym, ap, ap₂, _∙_}}
 use Prim.Native.Nat.{ℕ, zero, suc, _+_, _%_, _≤_, _<_}
-use native.Mathlib.Nat.{add-zero, not-suc-le-zero, le-of-suc-le-suc, mod-eq-of-lt, div-one}
-use native.Mathlib.Omega.{arith}
-use lib.Dec.{ltb}
-use lib.ListN.{length, getD, set, take, replicate}
-use lib.Seq.{sets}
+use native.Mathlib.{Nat.{add-zero, not-suc-le-zero, le-of-suc-le-suc, mod-eq-of-lt, div-one}, Omega.arith}
+use lib.{Dec.ltb, ListN.{length, getD, set, take, replicate}, Seq.sets}
 use borrow.Author.Tests.{lt-ltb, le-ltb, ltb-true}
-use Rattle.basics.specs.Choice.{ite, both}
-use Rattle.basics.proofs.Choices.{ite-true, ite-false}
-use Rattle.codec.specs.Numbers.{bytesOf, numberAt, Bytes}
-use Rattle.codec.specs.Items.{total, sizeOf, bodyOf, written, numbersAt, itemAt}
+use Rattle.basics.{proofs.Choices.{ite-true, ite-false}, specs.Choice.{ite, both}}
 use Rattle.codec.proofs.Items.{item-none, item-unknown, item-cut, item-whole}
-use Rattle.schedule.specs.declared.Record.{Record}
+use Rattle.codec.specs.{Items.{total, sizeOf, bodyOf, written, numbersAt, itemAt}, Numbers.{bytesOf, numberAt, Bytes}}
 use Rattle.schedule.specs.Records.{singles, carries, row, records, itemOf, bytesOfRecord, single, valueBehind, recordOf, refusing, answered, reading, clear, writable, writing}
+use Rattle.schedule.specs.declared.Record.{Record}
 use Rattle.schedule.proofs.Lengths.{singles-few}
 
 -- ---- computed: the records of the description's listing, and one of each refusal

@@ -1,20 +1,14 @@
 -- The numbers of a body and the fields of a record, each way: a law over the place for the numbers of one byte, and one for
 -- the value behind them.
 -- Assumes nothing.
-use mathlib.Core.Path.{_≡_, refl, sym, ap, ap₂, subst, _∙_}
-use mathlib.Core.Bool.{Bool, true, false}
-use mathlib.Core.List.{List, [], _∷_, _++_}
-use Prim.Native.Nat.{ℕ, zero, suc, _+_, _^_, _≤_, _<_}
-use native.Mathlib.Nat.{not-suc-le-zero, le-of-suc-le-suc}
-use native.Mathlib.Omega.{arith}
-use lib.Dec.{ltb, eqb, lit<}
-use lib.ListN.{length, getD, take, replicate, length-replicate, getD-replicate, List·getD-append}
+use mathlib.Core.{Bool.{Bool, true, false}, List.{List, [], _∷_, _++_}, Path.{_≡_, refl, sym, ap, ap₂, subst, _∙_}}
+use Prim.Native.Nat.{ℕ, zero, suc, _^_, _≤_, _<_}
+use native.Mathlib.{Nat.{not-suc-le-zero, le-of-suc-le-suc}, Omega.arith}
+use lib.{Dec.{ltb, eqb, lit<}, ListN.{length, getD, take, replicate, length-replicate, getD-replicate, List·getD-append}}
 use lib.Seq.{length-take-le, getD-take, getD-at, ext-getD}
 use borrow.Author.Tests.{lt-ltb, ltb-true, eqb-true}
-use Rattle.basics.specs.Choice.{ite}
-use Rattle.basics.proofs.Choices.{ite-true, ite-case}
-use Rattle.codec.specs.Numbers.{Bytes}
-use Rattle.codec.specs.Items.{Fits}
+use Rattle.basics.{proofs.Choices.{ite-true, ite-case}, specs.Choice.ite}
+use Rattle.codec.specs.{Items.Fits, Numbers.Bytes}
 use Rattle.schedule.specs.Records.{row, single, valueBehind, clear}
 
 -- ---- what was put into a body is there

@@ -2,27 +2,20 @@
 -- writing what was read (`written-read`), no two records share their bytes (`written-injective`), no record's bytes begin
 -- another's (`written-prefix-free`), and what is accepted or refused exactly when. All by the laws of items.
 -- Assumes nothing.
-use mathlib.Core.Path.{_≡_, refl, sym, ap, subst₂, _∙_}
-use mathlib.Core.Bool.{true}
-use mathlib.Core.List.{List, [], _∷_, _++_}
-use mathlib.Core.Logic.{_⊎_, inl, inr, _↔_}
+use mathlib.Core.{Bool.true, List.{List, [], _∷_, _++_}, Logic.{_⊎_, inl, inr, _↔_}, Path.{_≡_, refl, sym, ap, subst₂, _∙_}}
 use Prim.Native.Nat.{ℕ, _+_, _^_, _≤_, _<_}
 use native.Mathlib.Omega.{arith}
-use lib.Dec.{ltb, lit<}
-use lib.ListN.{length, getD, take, drop}
+use lib.{Dec.{ltb, lit<}, ListN.{length, getD, take, drop}}
 use borrow.Author.Tests.{ltb-true}
-use Rattle.basics.specs.Choice.{ite}
-use Rattle.basics.proofs.Choices.{both-true, both-left, both-right}
+use Rattle.basics.{proofs.Choices.{both-true, both-left, both-right}, specs.Choice.ite}
+use Rattle.codec.{proofs.Items.{Whole, Cut, Unknown, FoundAt, standing, item-whole}, specs.Items.{Item, sizeOf, written, itemAt, Proper}}
 use Rattle.codec.specs.Numbers.{Bytes}
-use Rattle.codec.specs.Items.{Item, sizeOf, written, itemAt, Proper}
 use Rattle.codec.specs.Items as Items
-use Rattle.codec.proofs.Items.{Whole, Cut, Unknown, FoundAt, standing, item-whole}
 use Rattle.codec.proofs.Items as items
-use Rattle.schedule.specs.declared.Record.{Record}
-use Rattle.schedule.specs.declared.Read.{Read}
 use Rattle.schedule.specs.Records.{singles, carries, records, itemOf, bytesOfRecord, recordOf, refusing, answered, reading, clear, writable}
-use Rattle.schedule.proofs.Lengths.{singles-few}
+use Rattle.schedule.specs.declared.{Read.Read, Record.Record}
 use Rattle.schedule.proofs.Fields.{single-kept, value-kept, row-fits, single-clear, value-clear, single-fits, value-fits, row-whole}
+use Rattle.schedule.proofs.Lengths.{singles-few}
 
 -- a record of the schedule: a kind, zero in what the kind does not have, and numbers of one byte and of four
 pub record Scheduled (r : Record) : Type 0 where

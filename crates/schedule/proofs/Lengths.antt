@@ -1,18 +1,12 @@
 -- The table of record lengths: one computed claim over the whole table, and what it says of each kind.
 -- Assumes nothing.
-use mathlib.Core.Path.{_≡_, refl, sym, ap, _∙_}
-use mathlib.Core.Bool.{Bool, true, false}
-use mathlib.Core.List.{List}
+use mathlib.Core.{Bool.{Bool, true, false}, List.List, Path.{_≡_, refl, sym, ap, _∙_}}
 use Prim.Native.Nat.{ℕ, zero, suc, _+_, _≤_, _<_}
-use native.Mathlib.Decide.{decLt}
-use native.Mathlib.Omega.{arith}
-use lib.Dec.{leb}
-use lib.ListN.{getD, List·getD-eq-default}
+use native.Mathlib.{Decide.decLt, Omega.arith}
+use lib.{Dec.leb, ListN.{getD, List·getD-eq-default}}
 use borrow.Author.Tests.{leb-true, le-ltb, lt-ltb}
+use Rattle.basics.{proofs.Below.{all-at, getD-listBelow}, proofs.Choices.{ite-true, ite-false}, specs.Below.{allBelow, listBelow}}
 use Rattle.basics.specs.Choice.{ite, both}
-use Rattle.basics.specs.Below.{allBelow, listBelow}
-use Rattle.basics.proofs.Choices.{ite-true, ite-false}
-use Rattle.basics.proofs.Below.{all-at, getD-listBelow}
 use Rattle.codec.specs.Items.{total, sizeOf}
 use Rattle.schedule.specs.Records.{lengths, singlesByKind, singles, carries, row, records}
 

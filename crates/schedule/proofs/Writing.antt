@@ -1,23 +1,14 @@
 -- The laws of writing a record into a lent area: which answer exactly when, what the area holds afterwards, and that
 -- reading gives the record back.
 -- Assumes nothing.
-use mathlib.Core.Path.{_≡_, refl, ap, _∙_}
-use mathlib.Core.Bool.{Bool, true, false}
-use mathlib.Core.List.{List, [], _++_}
-use mathlib.Core.Logic.{_↔_}
-use Prim.Native.Nat.{ℕ, _+_, _≤_, _<_}
-use native.Mathlib.Nat.{zero-add}
-use native.Mathlib.Omega.{arith}
-use lib.Dec.{ltb}
-use lib.ListN.{length, drop}
-use lib.Seq.{sets, sets-eq}
+use mathlib.Core.{Bool.{Bool, true, false}, List.{List, [], _++_}, Logic._↔_, Path.{_≡_, refl, ap, _∙_}}
+use Prim.Native.Nat.{ℕ, _≤_, _<_}
+use native.Mathlib.{Nat.zero-add, Omega.arith}
+use lib.{Dec.ltb, ListN.{length, drop}, Seq.{sets, sets-eq}}
 use borrow.Author.Tests.{ltb-true, ltb-false}
-use Rattle.codec.specs.Items.{sizeOf}
-use Rattle.codec.proofs.Items.{length-written}
-use Rattle.schedule.specs.declared.Record.{Record}
-use Rattle.schedule.specs.Records.{records, itemOf, bytesOfRecord, reading, writable, Outcome, writing}
-use Rattle.schedule.proofs.Cases.{writing-short, writing-refused, writing-done}
-use Rattle.schedule.proofs.Laws.{Scheduled, proper, read-written}
+use Rattle.codec.{proofs.Items.length-written, specs.Items.sizeOf}
+use Rattle.schedule.specs.{Records.{records, itemOf, bytesOfRecord, reading, writable, Outcome, writing}, declared.Record.Record}
+use Rattle.schedule.proofs.{Cases.{writing-short, writing-refused, writing-done}, Laws.{Scheduled, proper, read-written}}
 
 pub length-bytes : (r : Record) → Scheduled r → length (bytesOfRecord r) ≡ sizeOf records (r .kind)
 unfolding bytesOfRecord itemOf

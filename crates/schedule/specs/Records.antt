@@ -3,17 +3,12 @@
 -- place of the schedule and says how many bytes it used; writing tries 3, then 15.
 -- Assumes nothing.
 use Prim.Native.Nat.{ℕ}
-use mathlib.Core.Bool.{Bool, true}
-use mathlib.Core.List.{List, [], _∷_, _++_}
-use lib.Dec.{ltb, eqb}
-use lib.ListN.{length, getD, take, replicate}
-use lib.Seq.{sets}
+use mathlib.Core.{Bool.{Bool, true}, List.{List, [], _∷_, _++_}}
+use lib.{Dec.{ltb, eqb}, ListN.{length, getD, take, replicate}, Seq.sets}
 use Rattle.basics.specs.Choice.{ite, both}
 use Rattle.codec.specs.Items.{Format, Item, sizeOf, written, itemAt}
 use Rattle.codec.specs.Items as Items
-use Rattle.schedule.specs.declared.Record.{Record}
-use Rattle.schedule.specs.declared.Read.{Read}
-use Rattle.schedule.specs.declared.Written.{Written}
+use Rattle.schedule.specs.declared.{Read.Read, Record.Record, Written.Written}
 
 -- "Their body lengths by kind, 0 to 8, are 7, 4, 1, 2, 2, 2, 2, 1, 0"
 abbrev pub lengths : List ℕ

@@ -1,32 +1,19 @@
 -- When a step of a network in form is accepted: its trials pass, the panel accepts, and all that it sends finds room.
 -- Assumes nothing.
-use mathlib.Core.Path.{_≡_, refl, sym, ap, subst, _∙_}
-use mathlib.Core.Bool.{true}
-use mathlib.Core.Logic.{_≢_}
+use mathlib.Core.{Bool.true, Logic._≢_, Path.{_≡_, refl, sym, ap, subst, _∙_}}
 use Prim.Native.Nat.{ℕ, _+_, _-_, _≤_, _<_}
-use native.Mathlib.Decide.{ℕ-discrete, decLt}
-use native.Mathlib.Omega.{arith}
-use Rattle.refusals.specs.Refusals.{Event, refusal}
-use Rattle.refusals.specs.Refusals.Event.{write, read}
+use native.Mathlib.{Decide.{ℕ-discrete, decLt}, Omega.arith}
+use Rattle.refusals.specs.Refusals.{Event, refusal, Event.{write, read}}
 use Rattle.panel.specs.Calls.{after}
 use Rattle.protocol.specs.World.{Out}
-use Rattle.promise.specs.View.{outOf, codeOf}
-use Rattle.promise.proofs.AfterEvents.{after-code}
-use Rattle.promise.proofs.AtPlace.{At, at-peers, at-to-peers}
-use Rattle.channels.specs.declared.Row.{Row}
-use Rattle.channels.specs.Posting.{postedAll}
-use Rattle.channels.proofs.Flying.{cap}
-use Rattle.house.specs.declared.Network.{Network}
-use Rattle.house.specs.Places.{panelAt, tablesAt, rowAt, nOf, writerOf}
-use Rattle.steps.specs.declared.Stepped.{Stepped}
-use Rattle.steps.specs.Steps.{writeTrials, readTrials, deliverTrials, writeIn, readIn, deliverIn}
-use Rattle.steps.specs.Numbers.{worldOf}
-use Rattle.steps.specs.Moves.{arriving, writeOut, readOut, deliverOut}
-use Rattle.steps.proofs.Networks.{Good, at-place, place-seven, writer-place}
-use Rattle.steps.proofs.SentOut.{sent-fit}
-use Rattle.steps.proofs.Settling.{Accepts, step-is}
+use Rattle.promise.{proofs.AfterEvents.after-code, proofs.AtPlace.{At, at-peers, at-to-peers}, specs.View.{outOf, codeOf}}
+use Rattle.channels.{proofs.Flying.cap, specs.Posting.postedAll, specs.declared.Row.Row}
+use Rattle.house.specs.{Places.{panelAt, tablesAt, rowAt, nOf, writerOf}, declared.Network.Network}
+use Rattle.steps.specs.{Moves.{arriving, writeOut, readOut, deliverOut}, Numbers.worldOf}
+use Rattle.steps.specs.{Steps.{writeTrials, readTrials, deliverTrials, writeIn, readIn, deliverIn}, declared.Stepped.Stepped}
+use Rattle.steps.proofs.{Delivering.{without, row-other}, Networks.{Good, at-place, place-seven, writer-place}}
 use Rattle.steps.proofs.Passing.{receiver-place, places-apart, MayWrite, may-write, MayRead, may-read, MayDeliver, may-deliver}
-use Rattle.steps.proofs.Delivering.{without, row-other}
+use Rattle.steps.proofs.{SentOut.sent-fit, Settling.{Accepts, step-is}}
 
 -- all that the panel at place p sends to its peers finds room
 pub record Room (s : Network) (p : ℕ) (out : Out) : Type 0 where

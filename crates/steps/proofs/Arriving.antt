@@ -1,20 +1,14 @@
 -- What an accepted message does at the panel that it comes to, by its kind.
 -- Assumes nothing.
-use mathlib.Core.Path.{_≡_, sym, _∙_}
-use mathlib.Core.Bool.{Bool, true, false}
+use mathlib.Core.{Bool.{Bool, true, false}, Path.{_≡_, sym, _∙_}}
 use Prim.Native.Nat.{ℕ, suc, _-_, _%_, _<_}
-use native.Mathlib.Decide.{ℕ-discrete}
-use native.Mathlib.Omega.{arith}
+use native.Mathlib.{Decide.ℕ-discrete, Omega.arith}
 use Rattle.basics.specs.Below.{oneIf}
-use Rattle.refusals.specs.Refusals.{Event, refusal}
-use Rattle.refusals.specs.Refusals.Event.{writeFrom}
-use Rattle.panel.specs.declared.Panel.{Panel}
-use Rattle.panel.specs.Calls.{after}
-use Rattle.promise.specs.View.{viewOf, outOf}
-use Rattle.promise.proofs.AtPlace.{At, at-write-from, at-write-held, at-read-from, at-proceed-from}
+use Rattle.refusals.specs.Refusals.{Event, refusal, Event.writeFrom}
+use Rattle.panel.specs.{Calls.after, declared.Panel.Panel}
+use Rattle.promise.{proofs.AtPlace.{At, at-write-from, at-write-held, at-read-from, at-proceed-from}, specs.View.{viewOf, outOf}}
 use Rattle.channels.proofs.ByKind.{kind-case}
-use Rattle.steps.specs.Steps.{comes}
-use Rattle.steps.specs.Moves.{Came, write-comes, write-waits, read-comes, proceed-comes}
+use Rattle.steps.specs.{Moves.{Came, write-comes, write-waits, read-comes, proceed-comes}, Steps.comes}
 
 -- the panel P stands at place p of n, and the message comes from panel i
 module _ (n p : ℕ) (P : Panel) (at : At n p (P .tables)) (k i : ℕ) where

@@ -1,46 +1,27 @@
 -- Set-up: where n, t and writer fit, a network in form of these numbers, whose panels are all zero and wait for nothing, with nothing in
 -- flight and nobody down.
 -- Assumes nothing.
-use mathlib.Core.Path.{_≡_, refl, sym, ap, subst, _∙_}
-use mathlib.Core.Bool.{Bool, true, false}
+use mathlib.Core.{Bool.{Bool, true, false}, Path.{_≡_, refl, sym, ap, subst, _∙_}}
 use Prim.Native.Nat.{ℕ, _+_, _≤_, _<_}
-use native.Mathlib.Decide.{decLt}
-use native.Mathlib.Omega.{arith}
+use native.Mathlib.{Decide.decLt, Omega.arith}
 use lib.ListN.{length, length-replicate, getD-replicate}
 use borrow.Author.Tests.{le-leb}
+use Rattle.basics.proofs.{Below.{length-listBelow, getD-listBelow}, Choices.{ite-true, ite-false, not-so}, Lists.getD-same}
 use Rattle.basics.specs.Below.{oneIf, countBelow}
-use Rattle.basics.proofs.Choices.{ite-true, ite-false, not-so}
-use Rattle.basics.proofs.Lists.{getD-same}
-use Rattle.basics.proofs.Below.{length-listBelow, getD-listBelow}
+use Rattle.form.{proofs.InForm.{Fits, fits-view, panel-iff}, proofs.Shape.{Shaped, fresh-shaped}, specs.Form.{fits, fresh}}
 use Rattle.form.specs.declared.Tables.{Tables}
-use Rattle.form.specs.Form.{fits, fresh}
-use Rattle.form.proofs.InForm.{Fits, fits-view, panel-iff}
-use Rattle.form.proofs.Shape.{Shaped, fresh-shaped}
-use Rattle.unused.proofs.Zero.{fresh-is-unused}
-use Rattle.unused.specs.Unused.{unused}
+use Rattle.unused.{proofs.Zero.fresh-is-unused, specs.Unused.unused}
+use Rattle.panel.{proofs.Calling.{nothing-is, made-elsewhere, made-done}, specs.Calls.{panelOf, made}, specs.declared.Made.Made}
 use Rattle.panel.specs.declared.Panel.{Panel}
-use Rattle.panel.specs.declared.Made.{Made}
-use Rattle.panel.specs.Calls.{panelOf, made}
-use Rattle.panel.proofs.Calling.{nothing-is, made-elsewhere, made-done}
 use Rattle.protocol.proofs.AtFirst.{Fresh}
-use Rattle.promise.specs.View.{viewOf, Waits}
-use Rattle.promise.specs.Facts.{AllZero}
-use Rattle.promise.proofs.Numbers.{fresh-view, fresh-waits, fresh-initial, fresh-n, fresh-t, fresh-writer, fresh-number}
-use Rattle.promise.proofs.AtPlace.{fresh-at}
-use Rattle.channels.specs.declared.Row.{Row}
-use Rattle.channels.specs.declared.Channel.{Channel}
-use Rattle.channels.specs.Channels.{noRow, channelAt, inFlight, rowOk, emptyRow}
-use Rattle.channels.proofs.Flying.{none-empty}
-use Rattle.channels.proofs.Rows.{length-empty, channel-of-empty}
-use Rattle.channels.proofs.RowForm.{empty-row-ok}
+use Rattle.promise.proofs.{AtPlace.fresh-at, Numbers.{fresh-view, fresh-waits, fresh-initial, fresh-n, fresh-t, fresh-writer, fresh-number}}
+use Rattle.promise.specs.{Facts.AllZero, View.{viewOf, Waits}}
+use Rattle.channels.proofs.{Flying.none-empty, RowForm.empty-row-ok, Rows.{length-empty, channel-of-empty}}
+use Rattle.channels.specs.{Channels.{noRow, channelAt, inFlight, rowOk, emptyRow}, declared.Channel.Channel, declared.Row.Row}
+use Rattle.house.{proofs.NetForms.{Member, FormedAs, formed}, specs.NetForm.{mayBeDown, downsIn, downs}}
+use Rattle.house.specs.{Places.{nobody, panelAt, tablesAt, rowAt, downAt, nOf, tOf, writerOf, initialOf}, Whole.Whole}
 use Rattle.house.specs.declared.Network.{Network}
-use Rattle.house.specs.Places.{nobody, panelAt, tablesAt, rowAt, downAt, nOf, tOf, writerOf, initialOf}
-use Rattle.house.specs.NetForm.{mayBeDown, downsIn, downs}
-use Rattle.house.specs.Whole.{Whole}
-use Rattle.house.proofs.NetForms.{Member, FormedAs, formed}
-use Rattle.steps.specs.SetUp.{freshNetwork, setUp}
-use Rattle.steps.specs.Numbers.{worldOf}
-use Rattle.steps.specs.Moves.{AllWait}
+use Rattle.steps.specs.{Moves.AllWait, Numbers.worldOf, SetUp.{freshNetwork, setUp}}
 use Rattle.steps.proofs.Networks.{Good}
 
 -- ---- set-up of one panel

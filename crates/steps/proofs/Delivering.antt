@@ -1,36 +1,22 @@
 -- What an accepted delivery does in numbers: the message is gone, the panel that it came to does what its promise says, what it sends is
 -- in flight, and all else stays.
 -- Assumes nothing.
-use mathlib.Core.Path.{_≡_, refl, sym, ap, ap₂, _∙_}
-use mathlib.Core.Logic.{_≢_}
+use mathlib.Core.{Logic._≢_, Path.{_≡_, refl, sym, ap, ap₂, _∙_}}
 use Prim.Native.Nat.{ℕ, _+_, _-_, _<_}
-use native.Mathlib.Decide.{ℕ-discrete}
-use native.Mathlib.Omega.{arith}
+use native.Mathlib.{Decide.ℕ-discrete, Omega.arith}
 use lib.Dec.{eqb}
-use Rattle.basics.specs.Below.{oneIf}
-use Rattle.basics.proofs.Ones.{one-same, nought-apart}
-use Rattle.panel.specs.declared.Next.{Next}
-use Rattle.panel.specs.Calls.{after}
+use Rattle.basics.{proofs.Ones.{one-same, nought-apart}, specs.Below.oneIf}
+use Rattle.panel.specs.{Calls.after, declared.Next.Next}
 use Rattle.protocol.specs.World.{World, Out, Starts, Delivers}
 use Rattle.promise.specs.View.{codeOf}
-use Rattle.channels.specs.declared.Channel.{Channel}
-use Rattle.channels.specs.declared.Row.{Row}
-use Rattle.channels.specs.Channels.{channelAt, inFlight, less}
-use Rattle.channels.specs.Posting.{taken}
-use Rattle.channels.proofs.Flying.{has-known, less-takes}
-use Rattle.channels.proofs.Rows.{channel-of-taken, channel-of-taken-ne}
+use Rattle.channels.proofs.{Flying.{has-known, less-takes}, Rows.{channel-of-taken, channel-of-taken-ne}}
+use Rattle.channels.specs.{Channels.{channelAt, inFlight, less}, Posting.taken, declared.Channel.Channel, declared.Row.Row}
+use Rattle.house.{proofs.Stores.{row-with-row, row-with-row-ne}, specs.Places.{panelAt, rowAt, channelOf, nOf, withRow}}
 use Rattle.house.specs.declared.Network.{Network}
-use Rattle.house.specs.Places.{panelAt, rowAt, channelOf, nOf, withRow}
-use Rattle.house.proofs.Stores.{row-with-row, row-with-row-ne}
-use Rattle.steps.specs.Steps.{deliverTrials, deliverIn}
-use Rattle.steps.specs.Numbers.{worldOf}
-use Rattle.steps.specs.Moves.{arriving, deliverOut, Came}
+use Rattle.steps.specs.{Moves.{arriving, deliverOut, Came}, Numbers.worldOf, Steps.{deliverTrials, deliverIn}}
+use Rattle.steps.proofs.{Arriving.message-came, Keeping.taken-kept, Moves.{done-starts, done-panel, done-answer, done-code}}
 use Rattle.steps.proofs.Networks.{Good, at-place, place-seven}
-use Rattle.steps.proofs.Settling.{Done, step-done}
-use Rattle.steps.proofs.Passing.{sender-place, receiver-place, places-apart, MayDeliver, may-deliver}
-use Rattle.steps.proofs.Keeping.{taken-kept}
-use Rattle.steps.proofs.Arriving.{message-came}
-use Rattle.steps.proofs.Moves.{done-starts, done-panel, done-answer, done-code}
+use Rattle.steps.proofs.{Passing.{sender-place, receiver-place, places-apart, MayDeliver, may-deliver}, Settling.{Done, step-done}}
 
 -- ---- the message is taken
 

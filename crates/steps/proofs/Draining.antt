@@ -1,26 +1,16 @@
 -- A drain is one delivery after another: its number of steps does not run out, it goes on where the next delivery is accepted, stops
 -- where there is none, and is refused as a whole where one is refused.
 -- Assumes nothing.
-use mathlib.Core.Path.{_≡_, refl, sym, subst, _∙_}
-use mathlib.Core.Bool.{Bool, true, false}
-use mathlib.Core.Logic.{_≢_}
+use mathlib.Core.{Bool.{Bool, true, false}, Logic._≢_, Path.{_≡_, refl, sym, subst, _∙_}}
 use Prim.Native.Nat.{ℕ, zero, suc, _+_, _≤_, _<_}
-use native.Mathlib.Decide.{ℕ-discrete}
-use native.Mathlib.Omega.{arith}
+use native.Mathlib.{Decide.ℕ-discrete, Omega.arith}
 use borrow.Author.Tests.{eq-eqb, ne-eqb, not-true}
 use Rattle.basics.proofs.Choices.{ite-true, ite-false}
 use Rattle.promise.specs.View.{codeOf}
-use Rattle.house.specs.declared.Network.{Network}
-use Rattle.house.specs.Search.{live, firstIn}
-use Rattle.house.proofs.Searching.{Hits, found, found-pair}
-use Rattle.steps.specs.declared.Drained.{Drained}
-use Rattle.steps.specs.Numbers.{loadOf}
-use Rattle.steps.specs.Moves.{Deliveries, none, more}
-use Rattle.steps.specs.Drain.{drainedTo, nextIn, drainBy}
-use Rattle.steps.proofs.Networks.{Good}
+use Rattle.house.{proofs.Searching.{Hits, found, found-pair}, specs.Search.{live, firstIn}, specs.declared.Network.Network}
+use Rattle.steps.specs.{Drain.{drainedTo, nextIn, drainBy}, Moves.{Deliveries, none, more}, Numbers.loadOf, declared.Drained.Drained}
+use Rattle.steps.proofs.{Falling.deliver-falls, Keeping.{Kept, kept-none, kept-then, deliver-kept}, Networks.Good}
 use Rattle.steps.proofs.Passing.{MayDeliver}
-use Rattle.steps.proofs.Keeping.{Kept, kept-none, kept-then, deliver-kept}
-use Rattle.steps.proofs.Falling.{deliver-falls}
 
 -- ---- the next delivery
 

@@ -1,25 +1,16 @@
 -- The load of a network falls at each accepted delivery.
 -- Assumes nothing.
-use mathlib.Core.Path.{_≡_, sym, subst}
-use mathlib.Core.Logic.{_≢_}
+use mathlib.Core.{Logic._≢_, Path.{_≡_, sym, subst}}
 use Prim.Native.Nat.{ℕ, _+_, _-_, _≤_, _<_}
 use native.Mathlib.Omega.{arith}
-use Rattle.protocol.specs.World.{View, Out}
-use Rattle.protocol.specs.Counts.{panelLoad, outLoad, weight}
-use Rattle.protocol.proofs.Loads.{write-comes-falls, write-waits-falls, read-comes-falls, proceed-comes-falls}
-use Rattle.protocol.proofs.Falling.{load-falls}
+use Rattle.protocol.proofs.{Falling.load-falls, Loads.{write-comes-falls, write-waits-falls, read-comes-falls, proceed-comes-falls}}
+use Rattle.protocol.specs.{Counts.{panelLoad, outLoad, weight}, World.{View, Out}}
 use Rattle.promise.specs.View.{codeOf}
 use Rattle.channels.proofs.Flying.{has-known}
-use Rattle.house.specs.declared.Network.{Network}
-use Rattle.house.specs.Places.{nOf}
-use Rattle.house.proofs.Searching.{Pair}
-use Rattle.steps.specs.Steps.{deliverIn}
-use Rattle.steps.specs.Numbers.{loadOf}
-use Rattle.steps.specs.Moves.{Came, write-comes, write-waits, read-comes, proceed-comes}
-use Rattle.steps.proofs.Networks.{Good, formed-place}
+use Rattle.house.{proofs.Searching.Pair, specs.Places.nOf, specs.declared.Network.Network}
+use Rattle.steps.specs.{Moves.{Came, write-comes, write-waits, read-comes, proceed-comes}, Numbers.loadOf, Steps.deliverIn}
+use Rattle.steps.proofs.{Delivering.{DeliverMoves, deliver-moves}, Keeping.deliver-kept, Networks.{Good, formed-place}}
 use Rattle.steps.proofs.Passing.{sender-place, receiver-place, places-apart}
-use Rattle.steps.proofs.Keeping.{deliver-kept}
-use Rattle.steps.proofs.Delivering.{DeliverMoves, deliver-moves}
 
 came-falls :
     {n p q k : ℕ} {a b : View} {out : Out} → Came n p q k a out b → p < n → q < n → n ≤ 7 → q ≢ p → b .w p ≤ 200 → ((l : ℕ) → a .w l ≤ a .w p) →

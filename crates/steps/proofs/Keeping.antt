@@ -1,36 +1,25 @@
 -- "Every accepted step keeps this": a network in form stays so by every step, accepted or refused; n, t, writer and initial value stay,
 -- and no panel's wait is met afterwards where none was before.
 -- Assumes nothing.
-use mathlib.Core.Path.{_≡_, refl, sym, subst, _∙_}
-use mathlib.Core.Bool.{true}
+use mathlib.Core.{Bool.true, Path.{_≡_, refl, sym, subst, _∙_}}
 use Prim.Native.Nat.{ℕ, _+_, _-_, _<_}
-use native.Mathlib.Decide.{ℕ-discrete}
-use native.Mathlib.Omega.{arith}
+use native.Mathlib.{Decide.ℕ-discrete, Omega.arith}
 use lib.ListN.{length}
 use Rattle.refusals.specs.Refusals.{Event}
-use Rattle.panel.specs.declared.Panel.{Panel}
-use Rattle.panel.specs.declared.Next.{Next}
-use Rattle.panel.specs.Calls.{after}
-use Rattle.promise.specs.View.{Waits}
-use Rattle.promise.proofs.AfterEvents.{after-setting, after-waits-kept}
-use Rattle.promise.proofs.AtPlace.{At, at-after, at-peers}
-use Rattle.channels.specs.Channels.{rowOk}
+use Rattle.panel.specs.{Calls.after, declared.Next.Next, declared.Panel.Panel}
+use Rattle.promise.{proofs.AfterEvents.{after-setting, after-waits-kept}, proofs.AtPlace.{At, at-after, at-peers}, specs.View.Waits}
+use Rattle.channels.{proofs.RowForm.taken-ok, proofs.Rows.{length-taken, length-posted}, specs.Channels.rowOk}
 use Rattle.channels.specs.Posting.{postedAll, taken}
-use Rattle.channels.proofs.Rows.{length-taken, length-posted}
-use Rattle.channels.proofs.RowForm.{taken-ok}
-use Rattle.house.specs.declared.Network.{Network}
-use Rattle.house.specs.Places.{panelAt, tablesAt, rowAt, nOf, tOf, writerOf, initialOf, withPanel, withRow}
-use Rattle.house.specs.Whole.{Whole}
-use Rattle.house.proofs.NetForms.{Member}
-use Rattle.house.proofs.Stores.{panel-with-panel, panel-with-panel-ne, whole-with-panel, whole-with-row, whole-with-down}
 use Rattle.house.proofs.Kept.{form-with-panel, n-with-panel, t-with-panel, writer-with-panel, initial-with-panel, form-with-row, form-with-down}
-use Rattle.steps.specs.declared.Stepped.{Stepped}
-use Rattle.steps.specs.Steps.{settled, writeTrials, readTrials, deliverTrials, loseTrials, writeIn, readIn, deliverIn, loseIn, written, begun, delivered, lost, checked}
+use Rattle.house.proofs.{NetForms.Member, Stores.{panel-with-panel, panel-with-panel-ne, whole-with-panel, whole-with-row, whole-with-down}}
+use Rattle.house.specs.{Places.{panelAt, tablesAt, rowAt, nOf, tOf, writerOf, initialOf, withPanel, withRow}, Whole.Whole}
+use Rattle.house.specs.declared.Network.{Network}
 use Rattle.steps.specs.Moves.{AllWait, SameSetUp}
+use Rattle.steps.specs.Steps.{settled, writeTrials, readTrials, deliverTrials, loseTrials, writeIn, readIn, deliverIn, loseIn, written, begun, delivered, lost, checked}
+use Rattle.steps.specs.declared.Stepped.{Stepped}
 use Rattle.steps.proofs.Networks.{Good, good-test, at-place, place-seven, writer-place}
-use Rattle.steps.proofs.SentOut.{sent-ok}
+use Rattle.steps.proofs.{Passing.{receiver-place, may-read, may-deliver, may-lose}, SentOut.sent-ok}
 use Rattle.steps.proofs.Settling.{afterwards, settled-case, tried-case, checked-in-form}
-use Rattle.steps.proofs.Passing.{receiver-place, may-read, may-deliver, may-lose}
 
 -- what every step keeps
 pub record Kept (s s′ : Network) : Type 0 where

@@ -1,35 +1,21 @@
 -- What an accepted start does in numbers: the panel that acts does what its promise says, what it sends is in flight, and all else
 -- stays. Power loss moves nothing.
 -- Assumes nothing.
-use mathlib.Core.Path.{_≡_, refl, sym, ap, subst, _∙_}
-use mathlib.Core.List.{List}
+use mathlib.Core.{List.List, Path.{_≡_, refl, sym, ap, subst, _∙_}}
 use Prim.Native.Nat.{ℕ, _-_, _<_}
 use native.Mathlib.Omega.{arith}
 use Rattle.basics.specs.Refusal.{Trial}
-use Rattle.refusals.specs.Refusals.{Event, refusal}
-use Rattle.refusals.specs.Refusals.Event.{write, read}
-use Rattle.panel.specs.declared.Panel.{Panel}
-use Rattle.panel.specs.declared.Next.{Next}
-use Rattle.panel.specs.Calls.{after}
-use Rattle.protocol.specs.World.{View, Starts}
-use Rattle.protocol.specs.Promise.{Writes, Reads}
-use Rattle.promise.specs.View.{viewOf, outOf, codeOf}
-use Rattle.promise.proofs.AfterEvents.{after-code}
-use Rattle.promise.proofs.AtPlace.{at-write, at-read}
-use Rattle.channels.specs.declared.Row.{Row}
-use Rattle.channels.specs.Channels.{channelAt, inFlight}
-use Rattle.channels.specs.Posting.{postedAll}
-use Rattle.house.specs.declared.Network.{Network}
-use Rattle.house.specs.Places.{panelAt, tablesAt, rowAt, nOf, writerOf}
+use Rattle.refusals.specs.Refusals.{Event, refusal, Event.{write, read}}
+use Rattle.panel.specs.{Calls.after, declared.Next.Next, declared.Panel.Panel}
+use Rattle.protocol.specs.{Promise.{Writes, Reads}, World.{View, Starts}}
+use Rattle.promise.{proofs.AfterEvents.after-code, proofs.AtPlace.{at-write, at-read}, specs.View.{viewOf, outOf, codeOf}}
+use Rattle.channels.specs.{Channels.{channelAt, inFlight}, Posting.postedAll, declared.Row.Row}
 use Rattle.house.proofs.Stores.{panel-with-panel, panel-with-panel-ne, row-with-row, row-with-row-ne}
-use Rattle.steps.specs.declared.Stepped.{Stepped}
-use Rattle.steps.specs.Steps.{writeTrials, readTrials, loseTrials, writeIn, readIn, loseIn}
-use Rattle.steps.specs.Numbers.{worldOf}
-use Rattle.steps.specs.Moves.{writeOut, readOut}
-use Rattle.steps.proofs.Networks.{Good, at-place, place-seven, writer-place}
-use Rattle.steps.proofs.SentOut.{sent-adds}
-use Rattle.steps.proofs.Settling.{Done, step-done, tried-case}
-use Rattle.steps.proofs.Passing.{MayWrite, may-write, MayRead, may-read}
+use Rattle.house.specs.{Places.{panelAt, tablesAt, rowAt, nOf, writerOf}, declared.Network.Network}
+use Rattle.steps.specs.{Moves.{writeOut, readOut}, Numbers.worldOf}
+use Rattle.steps.specs.{Steps.{writeTrials, readTrials, loseTrials, writeIn, readIn, loseIn}, declared.Stepped.Stepped}
+use Rattle.steps.proofs.{Networks.{Good, at-place, place-seven, writer-place}, Passing.{MayWrite, may-write, MayRead, may-read}}
+use Rattle.steps.proofs.{SentOut.sent-adds, Settling.{Done, step-done, tried-case}}
 
 -- ---- a step that is done: the panel at place p of s has come to q
 

@@ -1,27 +1,17 @@
 -- A network that the laws speak of: in form, with the lengths that the code's arrays have. What stands at each of its places, in the
 -- words of the promise and in numbers; no table and no channel is over-full.
 -- Assumes nothing.
-use mathlib.Core.Path.{_≡_, sym, subst}
-use mathlib.Core.Bool.{true}
+use mathlib.Core.{Bool.true, Path.{_≡_, sym, subst}}
 use Prim.Native.Nat.{ℕ, _-_, _≤_, _<_}
-use native.Mathlib.Decide.{decLt}
-use native.Mathlib.Omega.{arith}
+use native.Mathlib.{Decide.decLt, Omega.arith}
 use Rattle.form.specs.declared.Tables.{Tables}
 use Rattle.unused.proofs.Zero.{unused-is-fresh}
-use Rattle.channels.specs.Channels.{inFlight}
-use Rattle.channels.proofs.Flying.{cap, cap-write, cap-other}
-use Rattle.channels.proofs.RowForm.{row-within}
-use Rattle.house.specs.declared.Network.{Network}
-use Rattle.house.specs.Places.{panelAt, tablesAt, rowAt, channelOf, nOf, writerOf}
-use Rattle.house.specs.NetForm.{netForm}
-use Rattle.house.specs.Whole.{Whole}
-use Rattle.house.proofs.NetForms.{Formed, form-view, form-of, writer-low, writer-high}
+use Rattle.channels.{proofs.Flying.{cap, cap-write, cap-other}, proofs.RowForm.row-within, specs.Channels.inFlight}
+use Rattle.house.{proofs.NetForms.{Formed, form-view, form-of, writer-low, writer-high}, specs.NetForm.netForm}
+use Rattle.house.specs.{Places.{panelAt, tablesAt, rowAt, channelOf, nOf, writerOf}, Whole.Whole, declared.Network.Network}
 use Rattle.protocol.proofs.Falling.{Filled, load-most}
-use Rattle.promise.specs.View.{viewOf}
-use Rattle.promise.specs.Facts.{AllZero}
+use Rattle.promise.{proofs.AtPlace.{At, at-formed}, proofs.Numbers.fresh-view, specs.Facts.AllZero, specs.View.viewOf}
 use Rattle.promise.specs.Facts as facts
-use Rattle.promise.proofs.Numbers.{fresh-view}
-use Rattle.promise.proofs.AtPlace.{At, at-formed}
 use Rattle.steps.specs.Numbers.{worldOf, loadOf}
 
 pub record Good (s : Network) : Type 0 where

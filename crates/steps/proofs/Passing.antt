@@ -1,21 +1,16 @@
 -- What a step that passes its trials has passed, and that it passes them where that holds.
 -- Assumes nothing.
-use mathlib.Core.Path.{_≡_, ap, _∙_}
-use mathlib.Core.Bool.{true, false, not}
-use mathlib.Core.Logic.{_↔_, _≢_}
+use mathlib.Core.{Bool.{true, false, not}, Logic.{_↔_, _≢_}, Path.{_≡_, ap, _∙_}}
 use Prim.Native.Nat.{ℕ, _+_, _-_, _≤_, _<_}
 use native.Mathlib.Omega.{arith}
 use lib.Dec.{lit<}
 use borrow.Author.Tests.{eqb-false, ne-eqb, not-true, not-false}
+use Rattle.basics.proofs.{Choices.{both-left, both-right, both-true}, Refusals.{passed, first-not, first-none}}
 use Rattle.basics.specs.Refusal.{firstOf}
-use Rattle.basics.proofs.Choices.{both-left, both-right, both-true}
-use Rattle.basics.proofs.Refusals.{passed, first-not, first-none}
 use Rattle.form.proofs.InForm.{panel-iff}
 use Rattle.channels.specs.Channels.{has}
+use Rattle.house.{proofs.Searching.Pair, specs.NetForm.{mayBeDown, downs}, specs.Places.{channelOf, downAt, nOf, tOf, writerOf}}
 use Rattle.house.specs.declared.Network.{Network}
-use Rattle.house.specs.Places.{channelOf, downAt, nOf, tOf, writerOf}
-use Rattle.house.specs.NetForm.{mayBeDown, downs}
-use Rattle.house.proofs.Searching.{Pair}
 use Rattle.steps.specs.Steps.{isPair, writeTrials, readTrials, deliverTrials, loseTrials}
 
 pub pair-iff : (n i j : ℕ) → (isPair n i j ≡ true) ↔ Pair n i j

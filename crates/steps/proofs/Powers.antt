@@ -1,26 +1,17 @@
 -- Who is down: power loss takes one more panel down, and nothing else changes it.
 -- Assumes nothing.
-use mathlib.Core.Path.{_≡_, refl, ap, _∙_}
-use mathlib.Core.Bool.{true}
-use mathlib.Core.Logic.{_≢_}
+use mathlib.Core.{Bool.true, Logic._≢_, Path.{_≡_, refl, ap, _∙_}}
 use Prim.Native.Nat.{ℕ, _+_, _-_, _<_}
-use native.Mathlib.Decide.{ℕ-discrete}
-use native.Mathlib.Omega.{arith}
+use native.Mathlib.{Decide.ℕ-discrete, Omega.arith}
 use Rattle.panel.specs.declared.Next.{Next}
 use Rattle.promise.specs.View.{codeOf}
+use Rattle.house.{proofs.Stores.{down-with-down, down-with-down-ne, downs-with-down}, specs.NetForm.downs, specs.Places.{downAt, withDown}}
 use Rattle.house.specs.declared.Network.{Network}
-use Rattle.house.specs.Places.{downAt, withDown}
-use Rattle.house.specs.NetForm.{downs}
-use Rattle.house.proofs.Stores.{down-with-down, down-with-down-ne, downs-with-down}
-use Rattle.steps.specs.declared.Stepped.{Stepped}
-use Rattle.steps.specs.declared.Drained.{Drained}
+use Rattle.steps.specs.{Drain.drained, Moves.{Deliveries, none, more}}
 use Rattle.steps.specs.Steps.{settled, writeTrials, readTrials, deliverTrials, loseTrials, writeIn, readIn, deliverIn, loseIn}
-use Rattle.steps.specs.Moves.{Deliveries, none, more}
-use Rattle.steps.specs.Drain.{drained}
-use Rattle.steps.proofs.Networks.{Good, place-seven}
+use Rattle.steps.specs.declared.{Drained.Drained, Stepped.Stepped}
+use Rattle.steps.proofs.{Delivering.without, Networks.{Good, place-seven}, Passing.{MayLose, may-lose}}
 use Rattle.steps.proofs.Settling.{settled-case, tried-case, Passed, tried-accepted}
-use Rattle.steps.proofs.Passing.{MayLose, may-lose}
-use Rattle.steps.proofs.Delivering.{without}
 use Rattle.steps.proofs.WholeDrain.{drained-refused, drained-deliveries}
 
 -- ---- a panel acts

@@ -1,45 +1,26 @@
 -- Which refusals a network in form meets: a write 5, 7, 8 or 14, a read 4, 5, 7, 8 or 14, a delivery 4, 5, 9 or 11 to 14, power loss 4, 5
 -- or 10, and a drain 11 to 14.
 -- Assumes nothing.
-use mathlib.Core.Path.{_≡_, refl, sym, ap, subst, _∙_}
-use mathlib.Core.Bool.{Bool, true, false, not}
-use mathlib.Core.List.{List, [], _∷_}
-use mathlib.Core.Logic.{_≢_, _⊎_, inl, inr}
+use mathlib.Core.{Bool.{Bool, true, false, not}, List.{List, [], _∷_}, Logic.{_≢_, _⊎_, inl, inr}, Path.{_≡_, refl, sym, ap, subst, _∙_}}
 use Prim.Native.Nat.{ℕ, zero, suc, _+_, _-_, _≤_, _<_}
 use native.Mathlib.Omega.{arith}
 use lib.Dec.{eqb}
 use borrow.Author.Tests.{eqb-true}
-use Rattle.basics.specs.Choice.{ite}
-use Rattle.basics.specs.Refusal.{Trial, firstOf}
-use Rattle.basics.proofs.Choices.{ite-case, clash}
-use Rattle.basics.proofs.Refusals.{first-not}
-use Rattle.refusals.specs.Refusals.{Event, refusal}
-use Rattle.refusals.specs.Refusals.Event.{write, read}
+use Rattle.basics.{proofs.Choices.{ite-case, clash}, proofs.Refusals.first-not, specs.Choice.ite, specs.Refusal.{Trial, firstOf}}
+use Rattle.refusals.specs.Refusals.{Event, refusal, Event.{write, read}}
 use Rattle.events.specs.declared.Answer.the-variants.{Refused}
-use Rattle.panel.specs.declared.Panel.{Panel}
-use Rattle.panel.specs.declared.Next.{Next}
-use Rattle.panel.specs.Calls.{after}
-use Rattle.promise.specs.View.{codeOf}
-use Rattle.promise.proofs.Answers.{at-writer, write-refusal, read-refusal}
-use Rattle.promise.proofs.AfterEvents.{after-code}
-use Rattle.promise.proofs.AtPlace.{At, at-write-from-met, at-read-from-met, at-proceed-from-met}
-use Rattle.channels.proofs.ByKind.{kind-case}
-use Rattle.channels.proofs.Flying.{has-known}
+use Rattle.panel.specs.{Calls.after, declared.Next.Next, declared.Panel.Panel}
+use Rattle.promise.proofs.{AfterEvents.after-code, Answers.{at-writer, write-refusal, read-refusal}}
+use Rattle.promise.{proofs.AtPlace.{At, at-write-from-met, at-read-from-met, at-proceed-from-met}, specs.View.codeOf}
+use Rattle.channels.proofs.{ByKind.kind-case, Flying.has-known}
+use Rattle.house.{proofs.NetForms.writer-low, specs.Places.{panelAt, tablesAt, nOf, writerOf}, specs.Search.firstIn}
 use Rattle.house.specs.declared.Network.{Network}
-use Rattle.house.specs.Places.{panelAt, tablesAt, nOf, writerOf}
-use Rattle.house.specs.Search.{firstIn}
-use Rattle.house.proofs.NetForms.{writer-low}
-use Rattle.steps.specs.declared.Stepped.{Stepped}
-use Rattle.steps.specs.declared.Drained.{Drained}
+use Rattle.steps.specs.{Drain.{nextIn, drainBy, drained}, Moves.arriving}
 use Rattle.steps.specs.Steps.{tried, settled, comes, writeTrials, readTrials, deliverTrials, loseTrials, writeIn, readIn, deliverIn, loseIn}
-use Rattle.steps.specs.Moves.{arriving}
-use Rattle.steps.specs.Drain.{nextIn, drainBy, drained}
-use Rattle.steps.proofs.Networks.{Good, at-place, writer-place}
-use Rattle.steps.proofs.Settling.{code-refused, code-nothing, tried-case, settled-case}
+use Rattle.steps.specs.declared.{Drained.Drained, Stepped.Stepped}
+use Rattle.steps.proofs.{Delivering.without, Draining.{next-may, next-kept, by-case}, Networks.{Good, at-place, writer-place}}
 use Rattle.steps.proofs.Passing.{receiver-place, places-apart, may-read, MayDeliver, may-deliver}
-use Rattle.steps.proofs.Delivering.{without}
-use Rattle.steps.proofs.Draining.{next-may, next-kept, by-case}
-use Rattle.steps.proofs.WholeDrain.{drained-is}
+use Rattle.steps.proofs.{Settling.{code-refused, code-nothing, tried-case, settled-case}, WholeDrain.drained-is}
 
 -- ---- one of some numbers
 

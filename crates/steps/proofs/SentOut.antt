@@ -1,23 +1,15 @@
 -- What one event sends, put into the channels that leave its panel: what is in flight afterwards, when all finds room, and that the
 -- row keeps its form.
 -- Assumes nothing.
-use mathlib.Core.Path.{_≡_}
-use mathlib.Core.Bool.{true}
-use mathlib.Core.List.{List}
+use mathlib.Core.{Bool.true, List.List, Path._≡_}
 use Prim.Native.Nat.{ℕ, _+_, _≤_, _<_}
 use native.Mathlib.Omega.{arith}
 use lib.ListN.{length}
-use Rattle.messages.specs.declared.Sends.{Sends}
-use Rattle.messages.specs.Sends.{Message, messagesOf}
-use Rattle.channels.specs.declared.Row.{Row}
-use Rattle.channels.specs.Channels.{channelAt, inFlight, rowOk}
-use Rattle.channels.specs.Posting.{posted, postedAll}
-use Rattle.channels.proofs.Flying.{cap}
-use Rattle.channels.proofs.Posts.{posts-adds, Sound, none, more, posts-fit}
-use Rattle.channels.proofs.RowForm.{posts-ok}
+use Rattle.messages.specs.{Sends.{Message, messagesOf}, declared.Sends.Sends}
+use Rattle.channels.proofs.{Flying.cap, Posts.{posts-adds, Sound, none, more, posts-fit}, RowForm.posts-ok}
+use Rattle.channels.specs.{Channels.{channelAt, inFlight, rowOk}, Posting.{posted, postedAll}, declared.Row.Row}
 use Rattle.protocol.specs.Promise.{ToPeers}
-use Rattle.promise.specs.View.{outOf}
-use Rattle.promise.specs.Facts.{AllTo}
+use Rattle.promise.specs.{Facts.AllTo, View.outOf}
 use Rattle.promise.specs.Facts as facts
 
 -- messages to peers go to one of the seven places and are of a kind of the wire

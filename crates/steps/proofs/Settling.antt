@@ -1,25 +1,17 @@
 -- What comes of a step: refused by the first trial that is met, by the panel, or by 14; or done. What holds of each outcome holds of the
 -- step; and a step that is not refused is done.
 -- Assumes nothing.
-use mathlib.Core.Path.{_≡_, refl, sym, subst, _∙_}
-use mathlib.Core.Bool.{Bool, true, false}
-use mathlib.Core.List.{List}
-use mathlib.Core.Logic.{_≢_}
+use mathlib.Core.{Bool.{Bool, true, false}, List.List, Logic._≢_, Path.{_≡_, refl, sym, subst, _∙_}}
 use Prim.Native.Nat.{ℕ}
-use native.Mathlib.Decide.{ℕ-discrete}
-use native.Mathlib.Omega.{arith}
+use native.Mathlib.{Decide.ℕ-discrete, Omega.arith}
 use borrow.Author.Tests.{eq-eqb, ne-eqb}
-use Rattle.basics.specs.Refusal.{Trial, firstOf}
-use Rattle.basics.proofs.Choices.{ite-true, ite-false}
+use Rattle.basics.{proofs.Choices.{ite-true, ite-false}, specs.Refusal.{Trial, firstOf}}
 use Rattle.events.specs.declared.Answer.the-variants.{Refused, Nothing}
 use Rattle.panel.specs.declared.Next.{Next}
 use Rattle.promise.specs.View.{codeOf}
 use Rattle.channels.specs.Posting.{postedAll}
-use Rattle.house.specs.declared.Network.{Network}
-use Rattle.house.specs.Places.{rowAt, withPanel, withRow}
-use Rattle.house.specs.NetForm.{netForm}
-use Rattle.steps.specs.declared.Stepped.{Stepped}
-use Rattle.steps.specs.Steps.{refusedBy, tried, settled, checked}
+use Rattle.house.specs.{NetForm.netForm, Places.{rowAt, withPanel, withRow}, declared.Network.Network}
+use Rattle.steps.specs.{Steps.{refusedBy, tried, settled, checked}, declared.Stepped.Stepped}
 
 -- ---- a refusal's number
 

@@ -1,31 +1,17 @@
 -- The drain as a call: a delivery of the first message and then a drain, or nothing to do, or refused as a whole. What it keeps, how many
 -- deliveries it makes at most, and that nothing is left in flight to a live panel.
 -- Assumes nothing.
-use mathlib.Core.Path.{_≡_, refl, sym, ap, subst, _∙_}
-use mathlib.Core.Bool.{true, false}
-use mathlib.Core.Logic.{_≢_}
+use mathlib.Core.{Bool.{true, false}, Logic._≢_, Path.{_≡_, refl, sym, ap, subst, _∙_}}
 use Prim.Native.Nat.{ℕ, zero, suc, _+_, _≤_, _<_}
-use native.Mathlib.Decide.{ℕ-discrete}
-use native.Mathlib.Nat.{add-zero}
-use native.Mathlib.Omega.{arith}
+use native.Mathlib.{Decide.ℕ-discrete, Nat.add-zero, Omega.arith}
 use Rattle.basics.proofs.Choices.{ite-true, ite-false}
 use Rattle.promise.specs.View.{codeOf}
+use Rattle.house.{proofs.Searching.{Free, none-found}, specs.NetForm.netForm, specs.Search.{firstIn, nowhere}}
 use Rattle.house.specs.declared.Network.{Network}
-use Rattle.house.specs.NetForm.{netForm}
-use Rattle.house.specs.Search.{firstIn, nowhere}
-use Rattle.house.proofs.Searching.{Free, none-found}
-use Rattle.steps.specs.declared.Stepped.{Stepped}
-use Rattle.steps.specs.declared.Sought.{Sought}
-use Rattle.steps.specs.declared.Drained.{Drained}
-use Rattle.steps.specs.Steps.{deliverIn, delivered}
-use Rattle.steps.specs.Search.{sought}
-use Rattle.steps.specs.Numbers.{loadOf}
-use Rattle.steps.specs.Moves.{Deliveries}
-use Rattle.steps.specs.Drain.{drainedTo, nextIn, drainBy, drainIn, drained}
-use Rattle.steps.proofs.Networks.{Good, good-test}
-use Rattle.steps.proofs.Settling.{checked-in-form}
-use Rattle.steps.proofs.Keeping.{Kept, kept-none}
+use Rattle.steps.specs.{Drain.{drainedTo, nextIn, drainBy, drainIn, drained}, Moves.Deliveries, Numbers.loadOf, Search.sought}
+use Rattle.steps.specs.{Steps.{deliverIn, delivered}, declared.Drained.Drained, declared.Sought.Sought, declared.Stepped.Stepped}
 use Rattle.steps.proofs.Draining.{next-kept, deliveries-kept, deliveries-fall, by-case, by-none, by-next, by-refused, drain-done, drain-step, drain-refused, Drains, drains}
+use Rattle.steps.proofs.{Keeping.{Kept, kept-none}, Networks.{Good, good-test}, Settling.checked-in-form}
 
 -- ---- the same drain, begun elsewhere or after other deliveries
 

@@ -5,13 +5,8 @@ use Prim.Native.Nat.{ℕ, zero, suc, _+_}
 use lib.Dec.{eqb}
 use Rattle.basics.specs.Choice.{ite}
 use Rattle.promise.specs.View.{codeOf}
-use Rattle.house.specs.declared.Network.{Network}
-use Rattle.steps.specs.declared.Stepped.{Stepped}
-use Rattle.steps.specs.declared.Drained.{Drained}
-use Rattle.house.specs.NetForm.{netForm}
-use Rattle.steps.specs.Steps.{deliverIn}
-use Rattle.house.specs.Search.{firstIn}
-use Rattle.steps.specs.Numbers.{loadOf}
+use Rattle.house.specs.{NetForm.netForm, Search.firstIn, declared.Network.Network}
+use Rattle.steps.specs.{Numbers.loadOf, Steps.deliverIn, declared.Drained.Drained, declared.Stepped.Stepped}
 
 abbrev pub drainedTo : Network → ℕ → ℕ → Drained
 drainedTo s k m = record { network = s; refusal = k; count = m }

@@ -3,15 +3,12 @@
 -- Assumes nothing.
 use Prim.Native.Nat.{ℕ, suc, _-_, _%_, _<_}
 use mathlib.Core.Path.{_≡_}
-use Rattle.refusals.specs.Refusals.{Event}
-use Rattle.refusals.specs.Refusals.Event.{write, read}
+use Rattle.refusals.specs.Refusals.{Event, Event.{write, read}}
 use Rattle.panel.specs.Calls.{after}
-use Rattle.protocol.specs.World.{View, Out}
-use Rattle.protocol.specs.Promise.{WriteComes, WriteWaits, ReadComes, ProceedComes}
+use Rattle.protocol.specs.{Promise.{WriteComes, WriteWaits, ReadComes, ProceedComes}, World.{View, Out}}
 use Rattle.promise.specs.View.{Waits, codeOf, outOf}
 use Rattle.channels.specs.Channels.{valueIn}
-use Rattle.house.specs.declared.Network.{Network}
-use Rattle.house.specs.Places.{panelAt, tablesAt, channelOf, nOf, tOf, writerOf, initialOf}
+use Rattle.house.specs.{Places.{panelAt, tablesAt, channelOf, nOf, tOf, writerOf, initialOf}, declared.Network.Network}
 use Rattle.steps.specs.Steps.{comes, deliverIn}
 
 -- ---- one step

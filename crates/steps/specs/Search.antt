@@ -1,9 +1,7 @@
 -- The search as a call: 2 is tried first.
 -- Assumes nothing.
 use Rattle.basics.specs.Choice.{ite}
-use Rattle.house.specs.declared.Network.{Network}
-use Rattle.house.specs.NetForm.{netForm}
-use Rattle.house.specs.Search.{nowhere, firstIn}
+use Rattle.house.specs.{NetForm.netForm, Search.{nowhere, firstIn}, declared.Network.Network}
 use Rattle.steps.specs.declared.Sought.{Sought}
 
 unfoldable pub sought : Network → Sought

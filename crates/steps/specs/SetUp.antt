@@ -3,8 +3,7 @@
 use Prim.Native.Nat.{ℕ, _+_}
 use mathlib.Core.Bool.{false}
 use lib.ListN.{replicate}
-use Rattle.basics.specs.Choice.{ite}
-use Rattle.basics.specs.Below.{listBelow}
+use Rattle.basics.specs.{Below.listBelow, Choice.ite}
 use Rattle.form.specs.Form.{fits}
 use Rattle.panel.specs.Calls.{made}
 use Rattle.channels.specs.Channels.{emptyRow}

@@ -2,25 +2,19 @@
 -- the network afterwards.
 -- Assumes nothing.
 use Prim.Native.Nat.{ℕ, _+_, _-_}
-use mathlib.Core.Bool.{Bool, true, false, not}
-use mathlib.Core.List.{List, [], _∷_}
+use mathlib.Core.{Bool.{Bool, true, false, not}, List.{List, [], _∷_}}
 use lib.Dec.{eqb}
-use Rattle.basics.specs.Choice.{ite, both}
-use Rattle.basics.specs.Refusal.{Trial, refuse, firstOf}
+use Rattle.basics.specs.{Choice.{ite, both}, Refusal.{Trial, refuse, firstOf}}
 use Rattle.form.specs.Form.{isPanel}
-use Rattle.refusals.specs.Refusals.{Event}
-use Rattle.refusals.specs.Refusals.Event.{write, read, writeFrom, readFrom, proceedFrom}
+use Rattle.refusals.specs.Refusals.{Event, Event.{write, read, writeFrom, readFrom, proceedFrom}}
 use Rattle.events.specs.declared.Answer.the-variants.{Refused, Nothing}
-use Rattle.panel.specs.declared.Next.{Next}
-use Rattle.panel.specs.Calls.{after}
+use Rattle.panel.specs.{Calls.after, declared.Next.Next}
 use Rattle.promise.specs.View.{codeOf}
-use Rattle.channels.specs.declared.Posted.{Posted}
-use Rattle.channels.specs.Channels.{byKind, has, valueIn}
-use Rattle.channels.specs.Posting.{postedAll, taken}
+use Rattle.channels.specs.{Channels.{byKind, has, valueIn}, Posting.{postedAll, taken}, declared.Posted.Posted}
+use Rattle.house.specs.NetForm.{mayBeDown, downs, netForm}
+use Rattle.house.specs.Places.{panelAt, rowAt, channelOf, downAt, nOf, tOf, writerOf, withPanel, withRow, withDown}
 use Rattle.house.specs.declared.Network.{Network}
 use Rattle.steps.specs.declared.Stepped.{Stepped}
-use Rattle.house.specs.Places.{panelAt, rowAt, channelOf, downAt, nOf, tOf, writerOf, withPanel, withRow, withDown}
-use Rattle.house.specs.NetForm.{mayBeDown, downs, netForm}
 
 -- "A refusal gives its number only and alters no table, channel or buffer"
 abbrev pub refusedBy : Network → ℕ → Stepped

@@ -1,8 +1,7 @@
 -- Counting below any bound: two counts that are more than the bound together meet, what passes and what does not are all,
 -- and a wider test counts no less.
 -- Assumes nothing.
-use mathlib.Core.Path.{_≡_, refl, sym, ap}
-use mathlib.Core.Bool.{Bool, true, false, not}
+use mathlib.Core.{Bool.{Bool, true, false, not}, Path.{_≡_, refl, sym, ap}}
 use Prim.Native.Nat.{ℕ, zero, suc, _+_, _≤_, _<_}
 use native.Mathlib.Omega.{arith}
 use Rattle.basics.specs.Below.{oneIf, countBelow}

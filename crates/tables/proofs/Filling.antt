@@ -1,17 +1,13 @@
 -- Filling a list from the front, an entry a turn, as the loops that make tables do.
 -- Assumes nothing.
-use mathlib.Core.Path.{_≡_, refl, sym, ap, _∙_}
-use mathlib.Core.Bool.{Bool, true, false}
-use mathlib.Core.List.{List, [], _∷_, _++_}
+use mathlib.Core.{Bool.{Bool, true, false}, List.{List, [], _∷_, _++_}, Path.{_≡_, refl, sym, ap, _∙_}}
 use Prim.Native.Nat.{ℕ, suc, _+_, _-_, _≤_, _<_}
-use native.Mathlib.Numerals.{add-one}
-use native.Mathlib.Omega.{arith}
+use native.Mathlib.{Numerals.add-one, Omega.arith}
 use lib.Dec.{ltb}
 use lib.ListN.{length, getD, drop, set, replicate, length-append, length-drop, length-replicate, getD-replicate, List·getD-append}
 use lib.Seq.{drop-cons, append-snoc, set-at, getD-append-add, getD-drop, ext-getD}
 use borrow.Author.Tests.{ltb-true, ltb-false}
-use Rattle.basics.specs.Below.{listBelow}
-use Rattle.basics.proofs.Below.{length-listBelow, getD-listBelow, listBelow-next}
+use Rattle.basics.{proofs.Below.{length-listBelow, getD-listBelow, listBelow-next}, specs.Below.listBelow}
 
 module _ {A : Type 0} (f : ℕ → A) where
   pub filled-none : (z : List A) → z ≡ listBelow 0 f ++ drop 0 z

@@ -1,24 +1,14 @@
 -- Form as plain facts: cases by computation, and what each test of specs/Form says, both ways.
 -- Assumes nothing.
-use mathlib.Core.Path.{_≡_, refl, sym, ap, subst, _∙_}
-use mathlib.Core.Bool.{Bool, true, false, not}
-use mathlib.Core.Logic.{_↔_}
-use mathlib.Core.List.{List, [], _∷_, _++_, map}
+use mathlib.Core.{Bool.{Bool, true, false, not}, List.{List, [], _∷_, _++_, map}, Logic._↔_, Path.{_≡_, refl, sym, ap, subst, _∙_}}
 use Prim.Native.Nat.{ℕ, zero, suc, _+_, _-_, _≤_, _<_}
-use native.Mathlib.Nat.{add-zero, add-suc, le-refl, le-trans}
-use native.Mathlib.Decide.{decLt}
-use native.Mathlib.Omega.{arith}
-use lib.Dec.{leb, ltb, eqb}
-use lib.ListN.{length, getD, replicate}
+use native.Mathlib.{Decide.decLt, Nat.{add-zero, add-suc, le-refl, le-trans}, Omega.arith}
+use lib.{Dec.{leb, ltb, eqb}, ListN.{length, getD, replicate}}
 use borrow.Author.Tests.{lt-ltb, le-ltb, le-leb, lt-leb, eq-eqb, ltb-true, ltb-false, leb-true, leb-false, eqb-true, not-true}
-use Rattle.basics.specs.Choice.{ite, both}
-use Rattle.basics.specs.Below.{allBelow}
-use Rattle.basics.proofs.Choices.{ite-true, ite-false, ite-case, both-left, both-right, both-true}
-use Rattle.basics.proofs.Below.{all-at, all-of}
-use Rattle.tables.specs.declared.Hold.{Hold}
+use Rattle.basics.proofs.{Below.{all-at, all-of}, Choices.{ite-true, ite-false, ite-case, both-left, both-right, both-true}}
+use Rattle.basics.specs.{Below.allBelow, Choice.{ite, both}}
+use Rattle.tables.specs.{Form.{entryOk, lineOk, holdOk, quietOk, unknownOk, historyOk}, Places.{noWrite, wAt}, declared.Hold.Hold}
 use Rattle.tables.specs.declared.Line.{Line}
-use Rattle.tables.specs.Places.{noWrite, wAt}
-use Rattle.tables.specs.Form.{entryOk, lineOk, holdOk, quietOk, unknownOk, historyOk}
 
 -- ---- cases
 

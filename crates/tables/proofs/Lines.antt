@@ -1,23 +1,14 @@
 -- The laws of READs that join a line and leave it: what stands where afterwards, who leaves, and that the line stays in form.
 -- Assumes nothing.
-use mathlib.Core.Path.{_≡_, refl, sym, ap, subst, subst₂, _∙_}
-use mathlib.Core.Bool.{Bool, true, false}
-use mathlib.Core.List.{[], _∷_}
+use mathlib.Core.{Bool.{Bool, true, false}, List.{[], _∷_}, Path.{_≡_, refl, sym, ap, subst, subst₂, _∙_}}
 use Prim.Native.Nat.{ℕ, zero, suc, _+_, _-_, _≤_, _<_}
-use native.Mathlib.Nat.{zero-add, add-zero}
-use native.Mathlib.Omega.{arith}
-use lib.Dec.{leb, ltb}
-use lib.ListN.{length, getD, length-set, List·getD-eq-default}
-use lib.Seq.{getD-set-same, getD-set-other}
+use native.Mathlib.{Nat.{zero-add, add-zero}, Omega.arith}
+use lib.{Dec.{leb, ltb}, ListN.{length, getD, length-set, List·getD-eq-default}, Seq.{getD-set-same, getD-set-other}}
 use borrow.Author.Tests.{le-leb, lt-leb, leb-true, leb-false, ltb-true, ltb-false}
+use Rattle.basics.{proofs.Below.{length-listBelow, getD-listBelow}, proofs.Choices.{ite-true, ite-false}, specs.Below.listBelow}
 use Rattle.basics.specs.Choice.{ite}
-use Rattle.basics.specs.Below.{listBelow}
-use Rattle.basics.proofs.Choices.{ite-true, ite-false}
-use Rattle.basics.proofs.Below.{length-listBelow, getD-listBelow}
+use Rattle.tables.specs.{Lines.{joined, leading, leaving, without}, Places.{noWrite, wAt}, declared.Line.Line}
 use Rattle.tables.specs.declared.WriteNo.{WriteNo}
-use Rattle.tables.specs.declared.Line.{Line}
-use Rattle.tables.specs.Places.{noWrite, wAt}
-use Rattle.tables.specs.Lines.{joined, leading, leaving, without}
 use Rattle.tables.proofs.Form.{waiting, LineForm}
 
 joins-behind : joined (waiting 1 (5 ∷ [])) (record { 0 = 7 }) ≡ waiting 2 (5 ∷ 7 ∷ [])

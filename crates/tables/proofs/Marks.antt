@@ -1,21 +1,15 @@
 -- The laws of marks at the seven places, after cases by computation.
 -- Assumes nothing.
-use mathlib.Core.Path.{_≡_, refl, sym, ap, _∙_}
-use mathlib.Core.Bool.{Bool, true, false}
-use mathlib.Core.List.{List, [], _∷_, map}
+use mathlib.Core.{Bool.{Bool, true, false}, List.{List, [], _∷_, map}, Path.{_≡_, refl, sym, ap, _∙_}}
 use Prim.Native.Nat.{ℕ, _-_, _≤_, _<_}
 use native.Mathlib.Omega.{arith}
-use lib.Dec.{leb, ltb, eqb}
-use lib.ListN.{length, getD, set, replicate, length-set, getD-replicate}
+use lib.{Dec.{leb, ltb, eqb}, ListN.{length, getD, set, replicate, length-set, getD-replicate}}
 use lib.Seq.{ext-getD, set-out, getD-set-same, getD-set-other}
 use borrow.Author.Tests.{lt-ltb, le-ltb, eqb-true, eqb-false}
-use Rattle.basics.specs.Choice.{both}
-use Rattle.basics.specs.Below.{oneIf, countBelow, listBelow}
-use Rattle.basics.proofs.Below.{length-listBelow, getD-listBelow, count-alike}
-use Rattle.basics.proofs.Choices.{both-false-left}
+use Rattle.basics.proofs.{Below.{length-listBelow, getD-listBelow, count-alike}, Choices.both-false-left}
+use Rattle.basics.specs.{Below.{oneIf, countBelow, listBelow}, Choice.both}
+use Rattle.tables.specs.{Marks.{hasW, reachesW, hasR, isOther, among, marks, onlyPlace, enough}, declared.ReadNo.ReadNo}
 use Rattle.tables.specs.declared.WriteNo.{WriteNo}
-use Rattle.tables.specs.declared.ReadNo.{ReadNo}
-use Rattle.tables.specs.Marks.{hasW, reachesW, hasR, isOther, among, marks, onlyPlace, enough}
 
 -- five panels, of which two may be down: three are enough, two are not
 three-of-five : (enough 5 2 (λ (j : ℕ). ltb j 3) ≡ true) × (enough 5 2 (λ (j : ℕ). ltb j 2) ≡ false)

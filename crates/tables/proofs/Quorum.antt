@@ -1,17 +1,12 @@
 -- The laws of enough panels: any two sets of them meet, all but t are enough, and more of them are enough too.
 -- Assumes nothing.
-use mathlib.Core.Path.{_≡_, ap, _∙_}
-use mathlib.Core.Bool.{Bool, true, not}
+use mathlib.Core.{Bool.{Bool, true, not}, Path.{_≡_, ap, _∙_}}
 use Prim.Native.Nat.{ℕ, zero, suc, _+_, _-_, _*_, _≤_, _<_}
-use native.Mathlib.Nat.{add-zero, add-suc}
-use native.Mathlib.Omega.{arith}
+use native.Mathlib.{Nat.{add-zero, add-suc}, Omega.arith}
 use borrow.Author.Tests.{le-leb, leb-true, ltb-true}
-use Rattle.basics.specs.Below.{oneIf, countBelow}
-use Rattle.basics.proofs.Below.{count-alike}
-use Rattle.basics.proofs.Choices.{both-left, both-right, both-true}
+use Rattle.basics.{proofs.Below.count-alike, proofs.Choices.{both-left, both-right, both-true}, specs.Below.{oneIf, countBelow}}
 use Rattle.tables.specs.Marks.{among, enough}
-use Rattle.tables.proofs.Counting.{Meet, count-meet, count-not, count-more}
-use Rattle.tables.proofs.Marks.{among-below, among-past}
+use Rattle.tables.proofs.{Counting.{Meet, count-meet, count-not, count-more}, Marks.{among-below, among-past}}
 
 -- past the n panels nothing counts
 count-past : (n : ℕ) (f : ℕ → Bool) (d : ℕ) → countBelow (n + d) (among n f) ≡ countBelow n f

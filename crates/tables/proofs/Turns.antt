@@ -1,26 +1,15 @@
 -- The turns of the loops: what each keeps, where it begins and where it stops.
 -- Assumes nothing.
-use mathlib.Core.Path.{_≡_, refl, sym, ap, ap₂, _∙_}
-use mathlib.Core.Bool.{Bool, true, false}
-use mathlib.Core.List.{List, _++_}
+use mathlib.Core.{Bool.{Bool, true, false}, List.{List, _++_}, Path.{_≡_, refl, sym, ap, ap₂, _∙_}}
 use Prim.Native.Nat.{ℕ, zero, suc, _+_, _-_, _≤_, _<_}
-use native.Mathlib.Nat.{zero-add, add-zero, add-suc, sub-zero}
-use native.Mathlib.Numerals.{add-one}
-use native.Mathlib.Omega.{arith}
-use lib.Dec.{leb, ltb, eqb}
-use lib.ListN.{length, getD, drop, replicate, List·getD-eq-default}
+use native.Mathlib.{Nat.{zero-add, add-zero, add-suc, sub-zero}, Numerals.add-one, Omega.arith}
+use lib.{Dec.{leb, ltb, eqb}, ListN.{length, getD, drop, replicate, List·getD-eq-default}}
 use borrow.Author.Tests.{le-leb, lt-leb, eq-eqb}
+use Rattle.basics.{proofs.Below.{all-next, all-of}, proofs.Choices.{ite-true, ite-false}, specs.Below.{allBelow, listBelow}}
 use Rattle.basics.specs.Choice.{ite, both}
-use Rattle.basics.specs.Below.{allBelow, listBelow}
-use Rattle.basics.proofs.Choices.{ite-true, ite-false}
-use Rattle.basics.proofs.Below.{all-next, all-of}
-use Rattle.tables.specs.declared.WriteNo.{WriteNo}
-use Rattle.tables.specs.declared.Line.{Line}
-use Rattle.tables.specs.Places.{noWrite, wAt}
-use Rattle.tables.specs.Form.{entryOk, unknownOk, historyOk}
-use Rattle.tables.specs.Lines.{leading, leaving, without}
-use Rattle.tables.proofs.Filling.{filled-rest}
-use Rattle.tables.proofs.Lines.{leading-more, leading-no-more, wAt-past}
+use Rattle.tables.specs.{Form.{entryOk, unknownOk, historyOk}, Lines.{leading, leaving, without}, Places.{noWrite, wAt}}
+use Rattle.tables.specs.declared.{Line.Line, WriteNo.WriteNo}
+use Rattle.tables.proofs.{Filling.filled-rest, Lines.{leading-more, leading-no-more, wAt-past}}
 
 -- ---- line_ok, with the entry before at hand
 

@@ -2,15 +2,10 @@
 -- value that the panel itself knows.
 -- Assumes nothing.
 use Prim.Native.Nat.{ℕ, _+_, _-_}
-use mathlib.Core.Bool.{Bool, true, not}
-use mathlib.Core.List.{List}
-use lib.Dec.{leb, ltb, eqb}
-use lib.ListN.{getD}
-use Rattle.basics.specs.Choice.{ite, both}
-use Rattle.basics.specs.Below.{allBelow}
-use Rattle.tables.specs.declared.Hold.{Hold}
-use Rattle.tables.specs.declared.Line.{Line}
-use Rattle.tables.specs.Places.{wAt}
+use mathlib.Core.{Bool.{Bool, true, not}, List.List}
+use lib.{Dec.{leb, ltb, eqb}, ListN.getD}
+use Rattle.basics.specs.{Below.allBelow, Choice.{ite, both}}
+use Rattle.tables.specs.{Places.wAt, declared.Hold.Hold, declared.Line.Line}
 
 -- "each line has at most 100 entries, not falling, each above w[j] and at most w[i]", zero "past a line's end"
 unfoldable pub entryOk : Line → ℕ → ℕ → ℕ → Bool

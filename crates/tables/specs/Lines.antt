@@ -1,13 +1,9 @@
 -- A line of waiting READs: one joins at the end (line 20 does not hold yet), some leave from the front (line 20 holds now).
 -- Assumes nothing.
 use Prim.Native.Nat.{ℕ, zero, suc, _+_, _-_}
-use lib.Dec.{leb}
-use lib.ListN.{getD, set}
-use Rattle.basics.specs.Choice.{ite}
-use Rattle.basics.specs.Below.{listBelow}
-use Rattle.tables.specs.declared.WriteNo.{WriteNo}
-use Rattle.tables.specs.declared.Line.{Line}
-use Rattle.tables.specs.Places.{noWrite, wAt}
+use lib.{Dec.leb, ListN.{getD, set}}
+use Rattle.basics.specs.{Below.listBelow, Choice.ite}
+use Rattle.tables.specs.{Places.{noWrite, wAt}, declared.Line.Line, declared.WriteNo.WriteNo}
 
 -- the line with x behind its last entry
 unfoldable pub joined : Line → WriteNo → Line

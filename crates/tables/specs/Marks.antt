@@ -1,14 +1,10 @@
 -- Which of the n panels pass a test, and whether they are enough: "at least n−t panels".
 -- Assumes nothing.
 use Prim.Native.Nat.{ℕ, _+_, _-_}
-use mathlib.Core.Bool.{Bool, not}
-use mathlib.Core.List.{List}
+use mathlib.Core.{Bool.{Bool, not}, List.List}
 use lib.Dec.{leb, ltb, eqb}
-use Rattle.basics.specs.Choice.{both}
-use Rattle.basics.specs.Below.{countBelow, listBelow}
-use Rattle.tables.specs.declared.WriteNo.{WriteNo}
-use Rattle.tables.specs.declared.ReadNo.{ReadNo}
-use Rattle.tables.specs.Places.{wAt, rAt}
+use Rattle.basics.specs.{Below.{countBelow, listBelow}, Choice.both}
+use Rattle.tables.specs.{Places.{wAt, rAt}, declared.ReadNo.ReadNo, declared.WriteNo.WriteNo}
 
 -- the tests of Figure 1: w[j] = x (lines 2, 3, 15), w[j] ≥ x (line 9), r[j] = y (line 7), at place j
 unfoldable pub hasW : List WriteNo → ℕ → ℕ → Bool

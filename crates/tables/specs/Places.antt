@@ -1,13 +1,9 @@
 -- What stands at a place of a table. Panel j has place j - 1. Past the end of a table stands zero.
 -- Assumes nothing.
 use Prim.Native.Nat.{ℕ}
-use mathlib.Core.Bool.{false}
-use mathlib.Core.List.{List, []}
+use mathlib.Core.{Bool.false, List.{List, []}}
 use lib.ListN.{getD}
-use Rattle.tables.specs.declared.WriteNo.{WriteNo}
-use Rattle.tables.specs.declared.ReadNo.{ReadNo}
-use Rattle.tables.specs.declared.Hold.{Hold}
-use Rattle.tables.specs.declared.Line.{Line}
+use Rattle.tables.specs.declared.{Hold.Hold, Line.Line, ReadNo.ReadNo, WriteNo.WriteNo}
 
 abbrev pub noWrite : WriteNo
 noWrite = record { 0 = 0 }

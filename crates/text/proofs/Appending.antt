@@ -1,15 +1,11 @@
 -- The laws of a text with bytes behind it: one after the other, a number's last digit first, and from nothing.
 -- Assumes nothing.
-use mathlib.Core.Path.{_≡_, refl, sym, ap, _∙_}
-use mathlib.Core.List.{List, [], _∷_, _++_}
+use mathlib.Core.{List.{List, [], _∷_, _++_}, Path.{_≡_, refl, sym, ap, _∙_}}
 use Prim.Native.Nat.{ℕ, zero, suc, _+_, _-_, _/_, _%_, _≤_, _<_}
-use native.Mathlib.Nat.{zero-add, sub-zero, zero-sub, suc-sub-suc}
-use native.Mathlib.Omega.{arith}
-use lib.ListN.{length, set, take, drop, replicate, length-append, length-replicate}
-use lib.Seq.{sets, sets-eq, set-comm, take-append-seam}
+use native.Mathlib.{Nat.{zero-add, sub-zero, zero-sub, suc-sub-suc}, Omega.arith}
+use lib.{ListN.{length, set, take, drop, replicate, length-append, length-replicate}, Seq.{sets, sets-eq, set-comm, take-append-seam}}
 use Rattle.basics.proofs.Lists.{sets-append}
-use Rattle.text.specs.declared.Text.{Text}
-use Rattle.text.specs.Text.{dec, textOf, appended, Appended}
+use Rattle.text.specs.{Text.{dec, textOf, appended, Appended}, declared.Text.Text}
 use Rattle.text.proofs.Decimal.{dec-small, dec-more, length-small}
 
 -- a store behind what is laid may come first

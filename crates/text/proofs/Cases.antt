@@ -1,12 +1,10 @@
 -- Computed: the lines of the description's listing, lines of refusals, and the longest line.
 -- Assumes nothing.
-use mathlib.Core.Path.{_≡_, refl}
-use mathlib.Core.List.{List, [], _∷_, map}
+use mathlib.Core.{List.{List, [], _∷_, map}, Path.{_≡_, refl}}
 use Prim.Native.Nat.{ℕ}
 use lib.ListN.{length}
 use Rattle.basics.specs.Choice.{ite}
-use Rattle.text.specs.declared.Line.{Line}
-use Rattle.text.specs.Text.{leading, dec, panelText, resultText, fields, spaced, lineText}
+use Rattle.text.specs.{Text.{leading, dec, panelText, resultText, fields, spaced, lineText}, declared.Line.Line}
 
 row : ℕ → ℕ → ℕ → ℕ → ℕ → ℕ → ℕ → ℕ → Line
 row step kind shown a b answer tag number =

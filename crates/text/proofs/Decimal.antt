@@ -1,14 +1,10 @@
 -- The laws of a number in decimal: it reads back as the number, in digits alone, with no zero in front, and has as many
 -- digits as its size asks for.
 -- Assumes nothing.
-use mathlib.Core.Path.{_≡_, refl, sym, ap, ap₂, subst, _∙_}
-use mathlib.Core.Bool.{Bool, true, false}
-use mathlib.Core.List.{List, [], _∷_, _++_}
+use mathlib.Core.{Bool.{Bool, true, false}, List.{List, [], _∷_, _++_}, Path.{_≡_, refl, sym, ap, ap₂, subst, _∙_}}
 use Prim.Native.Nat.{ℕ, zero, suc, _+_, _-_, _*_, _/_, _%_, _^_, _≤_, _<_}
-use native.Mathlib.Nat.{not-suc-le-zero, one-le-pow, div-eq-of-lt, mod-eq-of-lt}
-use native.Mathlib.Omega.{arith}
-use lib.Dec.{ltb}
-use lib.ListN.{length, getD, length-append, List·getD-append}
+use native.Mathlib.{Nat.{not-suc-le-zero, one-le-pow, div-eq-of-lt, mod-eq-of-lt}, Omega.arith}
+use lib.{Dec.ltb, ListN.{length, getD, length-append, List·getD-append}}
 use borrow.Author.Tests.{ltb-true, ltb-false}
 use Rattle.text.specs.Text.{leading, dec, readBehind, Digits}
 

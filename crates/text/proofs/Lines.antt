@@ -1,19 +1,14 @@
 -- The laws of a line's text: its fields' cases, its parts one behind the other, how long it is at most, and how it is laid.
 -- Assumes nothing.
-use mathlib.Core.Path.{_≡_, refl, sym, ap, _∙_}
-use mathlib.Core.Bool.{Bool, true, false}
-use mathlib.Core.List.{List, [], _∷_, _++_, append-assoc}
+use mathlib.Core.{Bool.{Bool, true, false}, List.{List, [], _∷_, _++_, append-assoc}, Path.{_≡_, refl, sym, ap, _∙_}}
 use Prim.Native.Nat.{ℕ, _+_, _^_, _≤_, _<_}
 use native.Mathlib.Omega.{arith}
-use lib.Dec.{ltb, eqb}
-use lib.ListN.{length, replicate, length-append}
+use lib.{Dec.{ltb, eqb}, ListN.{length, replicate, length-append}}
 use borrow.Author.Tests.{eq-eqb, ne-eqb}
 use Rattle.basics.proofs.Choices.{ite-true, ite-false, ite-case}
-use Rattle.text.specs.declared.Line.{Line}
+use Rattle.text.specs.{Text.{dec, panelText, resultText, fields, spaced, lineText, textOf, appended, Appended}, declared.Line.Line}
 use Rattle.text.specs.declared.Text.{Text}
-use Rattle.text.specs.Text.{dec, panelText, resultText, fields, spaced, lineText, textOf, appended, Appended}
-use Rattle.text.proofs.Decimal.{length-most}
-use Rattle.text.proofs.Appending.{behind, long-as, from-nothing}
+use Rattle.text.proofs.{Appending.{behind, long-as, from-nothing}, Decimal.length-most}
 
 -- ---- the fields' cases
 

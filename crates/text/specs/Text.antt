@@ -1,15 +1,10 @@
 -- The text of the bench's listing, as numbers of bytes: "Lines end in LF; fields stand one space apart, numbers in decimal."
 -- Assumes nothing.
 use Prim.Native.Nat.{ℕ, zero, suc, _+_, _-_, _*_, _/_, _%_, _≤_}
-use mathlib.Core.Path.{_≡_}
-use mathlib.Core.Bool.{Bool}
-use mathlib.Core.List.{List, [], _∷_, _++_}
-use lib.Dec.{ltb, eqb}
-use lib.ListN.{length, replicate}
-use lib.Seq.{sets}
+use mathlib.Core.{Bool.Bool, List.{List, [], _∷_, _++_}, Path._≡_}
+use lib.{Dec.{ltb, eqb}, ListN.{length, replicate}, Seq.sets}
 use Rattle.basics.specs.Choice.{ite}
-use Rattle.text.specs.declared.Line.{Line}
-use Rattle.text.specs.declared.Text.{Text}
+use Rattle.text.specs.declared.{Line.Line, Text.Text}
 
 -- `step kind a b answer result` and LF
 unfoldable pub firstLine : List ℕ

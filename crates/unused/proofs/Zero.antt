@@ -1,27 +1,14 @@
 -- What unused tables are: the fresh tables of zeros, and no others.
 -- Assumes nothing.
-use mathlib.Core.Path.{_≡_, refl, sym, ap, _∙_}
-use mathlib.Core.Bool.{true, false}
-use mathlib.Core.List.{List}
-use mathlib.Core.Logic.{_↔_}
+use mathlib.Core.{Bool.{true, false}, List.List, Logic._↔_, Path.{_≡_, refl, sym, ap, _∙_}}
 use Prim.Native.Nat.{ℕ, _<_}
 use native.Mathlib.Omega.{arith}
-use lib.Dec.{eqb}
-use lib.ListN.{length, getD, replicate, length-replicate, getD-replicate}
-use lib.Seq.{ext-getD}
+use lib.{Dec.eqb, ListN.{length, getD, replicate, length-replicate, getD-replicate}, Seq.ext-getD}
 use borrow.Author.Tests.{eqb-true, not-true}
-use Rattle.basics.specs.Choice.{both}
-use Rattle.basics.specs.Below.{allBelow}
-use Rattle.basics.proofs.Choices.{clash, both-left, both-right}
-use Rattle.basics.proofs.Below.{all-at}
-use Rattle.tables.specs.declared.Hold.{Hold}
-use Rattle.tables.specs.declared.Line.{Line}
-use Rattle.tables.specs.Places.{wAt, rAt, holdAt, lineAt, noWrite, noRead, noHold, noLine}
-use Rattle.form.specs.declared.Operation.{Operation}
-use Rattle.form.specs.declared.Operation.the-variants.{Idle, Writing, FirstWait, SecondWait}
-use Rattle.form.specs.declared.Tables.{Tables}
-use Rattle.form.specs.Form.{fresh, emptyLine}
-use Rattle.form.proofs.Shape.{Shaped}
+use Rattle.basics.{proofs.Below.all-at, proofs.Choices.{clash, both-left, both-right}, specs.Below.allBelow, specs.Choice.both}
+use Rattle.tables.specs.{Places.{wAt, rAt, holdAt, lineAt, noWrite, noRead, noHold, noLine}, declared.Hold.Hold, declared.Line.Line}
+use Rattle.form.{proofs.Shape.Shaped, specs.Form.{fresh, emptyLine}, specs.declared.Operation.Operation}
+use Rattle.form.specs.declared.{Operation.the-variants.{Idle, Writing, FirstWait, SecondWait}, Tables.Tables}
 use Rattle.unused.specs.Unused.{entryZero, valueZero, lineUnused, historyUnused, placeWith, placeUnused, idle, unused}
 
 -- a list of n entries that are all the same

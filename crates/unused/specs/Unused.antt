@@ -1,18 +1,11 @@
 -- When a panel's tables are unused: "everything unused is zero", as of the panels that a network has past n.
 -- Assumes nothing.
 use Prim.Native.Nat.{ℕ}
-use mathlib.Core.Bool.{Bool, true, false, not}
-use mathlib.Core.List.{List}
-use lib.Dec.{eqb}
-use lib.ListN.{getD}
-use Rattle.basics.specs.Choice.{both}
-use Rattle.basics.specs.Below.{allBelow}
-use Rattle.tables.specs.declared.Hold.{Hold}
-use Rattle.tables.specs.declared.Line.{Line}
-use Rattle.tables.specs.Places.{wAt, rAt, holdAt, lineAt}
-use Rattle.form.specs.declared.Operation.{Operation}
-use Rattle.form.specs.declared.Operation.the-variants.{Idle, Writing, FirstWait, SecondWait}
-use Rattle.form.specs.declared.Tables.{Tables}
+use mathlib.Core.{Bool.{Bool, true, false, not}, List.List}
+use lib.{Dec.eqb, ListN.getD}
+use Rattle.basics.specs.{Below.allBelow, Choice.both}
+use Rattle.tables.specs.{Places.{wAt, rAt, holdAt, lineAt}, declared.Hold.Hold, declared.Line.Line}
+use Rattle.form.specs.declared.{Operation.Operation, Operation.the-variants.{Idle, Writing, FirstWait, SecondWait}, Tables.Tables}
 
 -- the entry at place k of a line, and the value at place k of a history
 unfoldable pub entryZero : Line → ℕ → Bool

@@ -1,24 +1,16 @@
 -- The cases of reading and writing a message, one law each: what the code's proofs cite.
 -- Assumes nothing.
-use mathlib.Core.Path.{_≡_, refl, sym, ap, ap₂, subst, _∙_}
-use mathlib.Core.Bool.{Bool, true, false}
-use mathlib.Core.List.{List, [], _∷_, append-nil}
-use Prim.Native.Nat.{ℕ, zero, suc, _+_, _≤_, _<_}
+use mathlib.Core.{Bool.{true, false}, List.{List, [], _∷_, append-nil}, Path.{_≡_, refl, sym, ap, ap₂, _∙_}}
+use Prim.Native.Nat.{ℕ, _≤_, _<_}
 use native.Mathlib.Omega.{arith}
-use lib.Dec.{ltb, eqb}
-use lib.ListN.{length, getD, set}
-use lib.Seq.{sets}
+use lib.{ListN.{length, getD, set}, Seq.sets}
 use borrow.Author.Tests.{lt-ltb, le-ltb, eq-eqb, ne-eqb}
-use Rattle.basics.specs.Choice.{ite, both}
-use Rattle.basics.proofs.Choices.{ite-true, ite-false, both-true, both-false-left, both-false-right}
-use Rattle.codec.specs.Numbers.{bytesOf, numberAt}
-use Rattle.codec.specs.Items.{Format, Item, total, sizeOf, bodyOf, written, numbersAt, itemAt}
+use Rattle.basics.{proofs.Choices.{ite-true, ite-false, both-true, both-false-left, both-false-right}, specs.Choice.{ite, both}}
 use Rattle.codec.proofs.Items.{item-none, item-unknown, item-cut, item-whole}
-use Rattle.wire.specs.declared.Taken.{Taken}
+use Rattle.codec.specs.{Items.{total, sizeOf, bodyOf, written, numbersAt, itemAt}, Numbers.{bytesOf, numberAt}}
 use Rattle.wire.specs.declared.Taken.the-variants as Read
-use Rattle.wire.specs.declared.Put.{Put}
 use Rattle.wire.specs.declared.Put.the-variants as Wrote
-use Rattle.wire.specs.Messages.{carries, wire, itemOf, bytesOfMessage, sendable, messageOf, reading, Written, writing}
+use Rattle.wire.specs.Messages.{carries, wire, itemOf, bytesOfMessage, sendable, messageOf, reading, writing}
 
 -- ---- computed: WRITE1 with 650, a READ with a value, byte 4, a WRITE cut short
 

@@ -2,24 +2,16 @@
 -- writing what was read (`written-read`), no two messages share their bytes (`written-injective`), no message's
 -- bytes begin another's (`written-prefix-free`), and what is accepted or refused exactly when. All by the laws of items.
 -- Assumes nothing.
-use mathlib.Core.Path.{_≡_, refl, sym, ap, ap₂, subst₂, _∙_}
-use mathlib.Core.Bool.{Bool, true, false}
-use mathlib.Core.List.{List, [], _∷_, _++_, append-nil}
-use mathlib.Core.Logic.{_⊎_, _↔_}
-use Prim.Native.Nat.{ℕ, suc, _+_, _^_, _≤_, _<_}
+use mathlib.Core.{Bool.{Bool, true, false}, List.{List, [], _∷_, _++_}, Logic.{_⊎_, _↔_}, Path.{_≡_, refl, sym, ap, ap₂, subst₂, _∙_}}
+use Prim.Native.Nat.{ℕ, _^_, _≤_, _<_}
 use native.Mathlib.Omega.{arith}
-use lib.Dec.{ltb, eqb, lit<}
-use lib.ListN.{length, getD, take, drop}
-use lib.Seq.{sets}
-use borrow.Author.Tests.{lt-ltb, le-ltb, eq-eqb, ltb-true, ltb-false, eqb-true}
-use Rattle.basics.specs.Choice.{ite, both}
-use Rattle.basics.proofs.Choices.{ite-true, ite-false, both-true, both-left, both-right}
+use lib.{Dec.{eqb, lit<}, ListN.{length, getD, take}}
+use borrow.Author.Tests.{lt-ltb, ltb-true, eqb-true}
+use Rattle.basics.{proofs.Choices.{both-true, both-left, both-right}, specs.Choice.ite}
+use Rattle.codec.{proofs.Items.{Whole, Cut, Unknown, FoundAt}, specs.Items.{Item, sizeOf, written, itemAt, Fits, Proper}}
 use Rattle.codec.specs.Numbers.{Bytes}
-use Rattle.codec.specs.Items.{Item, sizeOf, written, itemAt, Fits, Proper}
 use Rattle.codec.specs.Items as Items
-use Rattle.codec.proofs.Items.{Whole, Cut, Unknown, FoundAt}
 use Rattle.codec.proofs.Items as items
-use Rattle.wire.specs.declared.Taken.{Taken}
 use Rattle.wire.specs.declared.Taken.the-variants as Read
 use Rattle.wire.specs.Messages.{carries, wire, itemOf, bytesOfMessage, sendable, messageOf, reading}
 

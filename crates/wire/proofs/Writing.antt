@@ -1,25 +1,16 @@
 -- The laws of writing a message into a lent area: which answer exactly when, what the area holds afterwards, and that
 -- reading gives the message back.
 -- Assumes nothing.
-use mathlib.Core.Path.{_≡_, refl, sym, ap, ap₂, _∙_}
-use mathlib.Core.Bool.{Bool, true, false}
-use mathlib.Core.List.{List, [], _∷_, _++_}
-use mathlib.Core.Logic.{_↔_}
-use Prim.Native.Nat.{ℕ, _+_, _≤_, _<_}
-use native.Mathlib.Nat.{zero-add}
-use native.Mathlib.Omega.{arith}
-use lib.Dec.{ltb}
-use lib.ListN.{length, drop}
-use lib.Seq.{sets, sets-eq, drop-at}
+use mathlib.Core.{Bool.{Bool, true, false}, List.{List, _++_}, Logic._↔_, Path.{_≡_, refl, sym, ap, _∙_}}
+use Prim.Native.Nat.{ℕ, _≤_, _<_}
+use native.Mathlib.{Nat.zero-add, Omega.arith}
+use lib.{Dec.ltb, ListN.{length, drop}, Seq.{sets, sets-eq}}
 use borrow.Author.Tests.{ltb-true, ltb-false}
-use Rattle.codec.specs.Items.{sizeOf, written}
-use Rattle.codec.proofs.Items.{length-written}
+use Rattle.codec.{proofs.Items.length-written, specs.Items.sizeOf}
 use Rattle.wire.specs.declared.Taken.the-variants as Read
-use Rattle.wire.specs.declared.Put.{Put}
 use Rattle.wire.specs.declared.Put.the-variants as Wrote
 use Rattle.wire.specs.Messages.{wire, itemOf, bytesOfMessage, sendable, reading, Written, writing}
-use Rattle.wire.proofs.Cases.{writing-short, writing-refused, writing-sent}
-use Rattle.wire.proofs.Laws.{Message, proper, read-written}
+use Rattle.wire.proofs.{Cases.{writing-short, writing-refused, writing-sent}, Laws.{Message, proper, read-written}}
 
 pub length-bytes : (k v : ℕ) → Message k v → length (bytesOfMessage k v) ≡ sizeOf wire k
 unfolding bytesOfMessage itemOf

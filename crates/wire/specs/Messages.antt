@@ -1,18 +1,14 @@
 -- Messages on the wire: "0 WRITE0 and 1 WRITE1 with the value in 4 bytes; 2 READ and 3 PROCEED with none". Reading takes
 -- one message from the front and says how many bytes it used; writing tries 3, then 15.
 -- Assumes nothing.
-use Prim.Native.Nat.{ℕ, _+_}
-use mathlib.Core.Bool.{Bool, true}
-use mathlib.Core.List.{List, [], _∷_}
-use lib.Dec.{ltb, eqb}
-use lib.ListN.{length, getD}
-use lib.Seq.{sets}
+use Prim.Native.Nat.{ℕ}
+use mathlib.Core.{Bool.{Bool, true}, List.{List, [], _∷_}}
+use lib.{Dec.{ltb, eqb}, ListN.{length, getD}, Seq.sets}
 use Rattle.basics.specs.Choice.{ite, both}
 use Rattle.codec.specs.Items.{Format, Item, sizeOf, written, itemAt}
 use Rattle.codec.specs.Items as Items
-use Rattle.wire.specs.declared.Taken.{Taken}
+use Rattle.wire.specs.declared.{Put.Put, Taken.Taken}
 use Rattle.wire.specs.declared.Taken.the-variants as Read
-use Rattle.wire.specs.declared.Put.{Put}
 use Rattle.wire.specs.declared.Put.the-variants as Wrote
 
 -- the kinds that carry a value: WRITE0 and WRITE1

@@ -1,17 +1,10 @@
 -- `bench::lay` meets its contract. Assumes nothing.
 use borrow.Author.Needs.{needs}
-use Rattle.bench.proofs.Laying.{lays}
-use Rattle.bench.proofs.lay.Statement.{statement}
+use Rattle.bench.proofs.{Laying.lays, lay.Statement.statement}
 use Rattle.bench.proofs.lay.Tie as tie
-
-listing-requires : tie.Need-listing-requires
-listing-requires c κs = search needs
-
-same-length : tie.Need-same-length
-same-length c = search needs
 
 returns : tie.Need-returns
 returns c = lays _ _ _ (c .before .before .listing .ensures .0) (c .before .before .listing .ensures .1) (c .before .before .before .before .before .before .pre)
 
 pub lay-spec : {M : Type 1} → statement M
-lay-spec = tie.close (tie.spec listing-requires same-length returns)
+lay-spec = tie.close (tie.spec (λ c κs. search needs) (λ c. search needs) returns)

@@ -1,9 +1,8 @@
 -- `carried::history_from` meets its contract. Assumes nothing.
-use Prim.Native.Nat.{ℕ, _+_, _≤_, _-_}
+use Prim.Native.Nat.{ℕ, _≤_, _-_}
 use borrow.Author.Needs.{needs}
 use lib.ListN.{drop}
-use mathlib.Core.List.{_++_, append-nil}
-use mathlib.Core.Path.{_≡_}
+use mathlib.Core.{List.{_++_, append-nil}, Path._≡_}
 use native.Mathlib.Omega.{arith}
 use Rattle.basics.specs.Below.{listBelow}
 use Rattle.codec.specs.Numbers.{numberAt}
@@ -21,24 +20,6 @@ abbrev μ-loop : tie.MeasureT-loop
 loop-holds : tie.Need-loop-holds Inv-loop μ-loop
 loop-holds c = (search needs, filled-none _ _)
 
-value-place-requires : tie.Need-value-place-requires Inv-loop μ-loop
-value-place-requires c κs = search needs
-
-word-at-requires : tie.Need-word-at-requires Inv-loop μ-loop
-word-at-requires c κs = search needs
-
-mul-history : tie.Need-mul-history Inv-loop μ-loop
-mul-history c = search needs
-
-array-write-history : tie.Need-array-write-history Inv-loop μ-loop
-array-write-history c = search needs
-
-add-k : tie.Need-add-k Inv-loop μ-loop
-add-k c = search needs
-
-loop-less : tie.Need-loop-less Inv-loop μ-loop
-loop-less c = search needs
-
 loop-again : tie.Need-loop-again Inv-loop μ-loop
 loop-again c = let i = c .before .before .before .loop .inv in (omega arith, simp (c .word-at .ensures, c .before .value-place .ensures, i .1) (filled-next _ 0 _ _ (omega arith)))
 
@@ -47,16 +28,5 @@ returns c = let e : c .before .loop .k ≡ 201 = omega arith in simp (c .before 
 
 pub history-from-spec : {M : Type 1} → statement M
 history-from-spec =
-    tie.close
-    (tie.spec
-    Inv-loop
-    μ-loop
-    loop-holds
-    value-place-requires
-    word-at-requires
-    mul-history
-    array-write-history
-    add-k
-    loop-less
-    loop-again
-    returns)
+    tie.close (tie.spec Inv-loop μ-loop loop-holds (λ c κs. search needs) (λ c κs. search needs) (λ c. search needs) (λ c. search needs)
+    (λ c. search needs) (λ c. search needs) loop-again returns)

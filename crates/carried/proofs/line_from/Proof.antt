@@ -2,12 +2,10 @@
 use Prim.Native.Nat.{ℕ, _+_, _≤_, _-_}
 use borrow.Author.Needs.{needs}
 use lib.ListN.{drop}
-use mathlib.Core.List.{_++_, append-nil}
-use mathlib.Core.Path.{_≡_}
+use mathlib.Core.{List.{_++_, append-nil}, Path._≡_}
 use native.Mathlib.Omega.{arith}
 use Rattle.basics.specs.Below.{listBelow}
-use Rattle.tables.proofs.Filling.{filled-none, filled-next}
-use Rattle.tables.specs.Places.{noWrite}
+use Rattle.tables.{proofs.Filling.{filled-none, filled-next}, specs.Places.noWrite}
 use Rattle.carried.proofs.line_from.Statement.{statement}
 use Rattle.carried.proofs.line_from.Tie as tie
 use Rattle.carried.specs.Panels.{writeNoFrom, lineFrom}
@@ -18,29 +16,8 @@ Inv-loop bytes at len sn₀ k₀ sn k = (k ≤ 100) × (sn ≡ listBelow k (λ (
 abbrev μ-loop : tie.MeasureT-loop
 μ-loop bytes at len sn₀ k₀ sn k = 100 - k
 
-byte-at-requires : tie.Need-byte-at-requires Inv-loop μ-loop
-byte-at-requires c κs = search needs
-
 loop-holds : tie.Need-loop-holds Inv-loop μ-loop
 loop-holds c = (search needs, filled-none _ _)
-
-add-byte-at : tie.Need-add-byte-at Inv-loop μ-loop
-add-byte-at c = search needs
-
-add-byte-at-2 : tie.Need-add-byte-at-2 Inv-loop μ-loop
-add-byte-at-2 c = search needs
-
-byte-at-requires-2 : tie.Need-byte-at-requires-2 Inv-loop μ-loop
-byte-at-requires-2 c κs = search needs
-
-array-set-from-sn : tie.Need-array-set-from-sn Inv-loop μ-loop
-array-set-from-sn c = search needs
-
-add-k : tie.Need-add-k Inv-loop μ-loop
-add-k c = search needs
-
-loop-less : tie.Need-loop-less Inv-loop μ-loop
-loop-less c = search needs
 
 loop-again : tie.Need-loop-again Inv-loop μ-loop
 loop-again c = let i = c .before .before .loop .inv in (omega arith, simp (c .byte-at2 .ensures, i .1) (filled-next _ noWrite _ _ (omega arith)))
@@ -51,17 +28,5 @@ returns c = let e : c .before .loop .k ≡ 100 = omega arith in simp (c .before 
 
 pub line-from-spec : {M : Type 1} → statement M
 line-from-spec =
-    tie.close
-    (tie.spec
-    Inv-loop
-    μ-loop
-    byte-at-requires
-    loop-holds
-    add-byte-at
-    add-byte-at-2
-    byte-at-requires-2
-    array-set-from-sn
-    add-k
-    loop-less
-    loop-again
-    returns)
+    tie.close (tie.spec Inv-loop μ-loop (λ c κs. search needs) loop-holds (λ c. search needs) (λ c. search needs) (λ c κs. search needs)
+    (λ c. search needs) (λ c. search needs) (λ c. search needs) loop-again returns)

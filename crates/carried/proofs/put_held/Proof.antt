@@ -3,12 +3,9 @@ use Prim.Native.Nat.{ℕ, _≤_, _-_}
 use borrow.Author.Needs.{needs}
 use native.Mathlib.Omega.{arith}
 use Rattle.tables.specs.Places.{holdAt}
-use Rattle.carried.proofs.Lengths.{length-hold}
-use Rattle.carried.proofs.Rows.{laid-length, rows-start, rows-turn, rows-end}
-use Rattle.carried.proofs.put_held.Statement.{statement}
+use Rattle.carried.proofs.{Lengths.length-hold, Rows.{laid-length, rows-start, rows-turn, rows-end}, put_held.Statement.statement}
 use Rattle.carried.proofs.put_held.Tie as tie
-use Rattle.carried.specs.Laid.{Laid}
-use Rattle.carried.specs.Panels.{rowsBelow, holdBytes, heldBytes}
+use Rattle.carried.specs.{Laid.Laid, Panels.{rowsBelow, holdBytes, heldBytes}}
 
 abbrev Inv-loop : tie.InvT-loop
 Inv-loop out₀ hs j₀ out j = (j ≤ 7) × Laid out₀ 22 (rowsBelow j (λ (i : ℕ). holdBytes (holdAt hs i))) out
@@ -18,27 +15,6 @@ abbrev μ-loop : tie.MeasureT-loop
 
 loop-holds : tie.Need-loop-holds Inv-loop μ-loop
 loop-holds c = (search needs, rows-start _ _ _)
-
-mul-put-hold : tie.Need-mul-put-hold Inv-loop μ-loop
-mul-put-hold c = search needs
-
-array-copy-out-put-hold : tie.Need-array-copy-out-put-hold Inv-loop μ-loop
-array-copy-out-put-hold c = search needs
-
-mul-put-hold-2 : tie.Need-mul-put-hold-2 Inv-loop μ-loop
-mul-put-hold-2 c = search needs
-
-add-put-hold : tie.Need-add-put-hold Inv-loop μ-loop
-add-put-hold c = search needs
-
-put-hold-requires : tie.Need-put-hold-requires Inv-loop μ-loop
-put-hold-requires c κs = search needs
-
-add-j : tie.Need-add-j Inv-loop μ-loop
-add-j c = search needs
-
-loop-less : tie.Need-loop-less Inv-loop μ-loop
-loop-less c = search needs
 
 loop-again : tie.Need-loop-again Inv-loop μ-loop
 loop-again c = (omega arith, rows-turn 5 _ (λ k. length-hold _) 22 _ (c .before .before .before .before .before .before .loop .inv .1) (omega arith) (c .before .before .put-hold .ensures))
@@ -52,18 +28,5 @@ returns c = rows-end _ 7 (omega arith) (c .before .loop .inv .1)
 
 pub put-held-spec : {M : Type 1} → statement M
 put-held-spec =
-    tie.close
-    (tie.spec
-    Inv-loop
-    μ-loop
-    loop-holds
-    mul-put-hold
-    array-copy-out-put-hold
-    mul-put-hold-2
-    add-put-hold
-    put-hold-requires
-    add-j
-    loop-less
-    loop-again
-    same-length
-    returns)
+    tie.close (tie.spec Inv-loop μ-loop loop-holds (λ c. search needs) (λ c. search needs) (λ c. search needs) (λ c. search needs)
+    (λ c κs. search needs) (λ c. search needs) (λ c. search needs) loop-again same-length returns)

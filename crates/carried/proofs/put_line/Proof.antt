@@ -2,15 +2,12 @@
 use Prim.Native.Nat.{ℕ, _+_, _≤_, _-_}
 use borrow.Author.Needs.{needs}
 use lib.ListN.{length, length-set}
-use mathlib.Core.List.{[], _∷_}
-use mathlib.Core.Path.{ap, refl, _∙_}
+use mathlib.Core.{List.{[], _∷_}, Path.{ap, refl, _∙_}}
 use native.Mathlib.Omega.{arith}
 use Rattle.tables.specs.Places.{wAt}
-use Rattle.carried.proofs.Rows.{laid-byte, laid-then, laid-length, rows-start, rows-turn, rows-end}
-use Rattle.carried.proofs.put_line.Statement.{statement}
+use Rattle.carried.proofs.{Rows.{laid-byte, laid-then, laid-length, rows-start, rows-turn, rows-end}, put_line.Statement.statement}
 use Rattle.carried.proofs.put_line.Tie as tie
-use Rattle.carried.specs.Laid.{Laid}
-use Rattle.carried.specs.Panels.{rowsBelow, lineBytes}
+use Rattle.carried.specs.{Laid.Laid, Panels.{rowsBelow, lineBytes}}
 
 abbrev Inv-loop : tie.InvT-loop
 Inv-loop at out₀ l k₀ out k = (k ≤ 100) × Laid out₀ (at + 1) (rowsBelow k (λ (i : ℕ). wAt (l .sn) i ∷ [])) out
@@ -18,29 +15,8 @@ Inv-loop at out₀ l k₀ out k = (k ≤ 100) × Laid out₀ (at + 1) (rowsBelow
 abbrev μ-loop : tie.MeasureT-loop
 μ-loop at out₀ l k₀ out k = 100 - k
 
-put-byte-requires : tie.Need-put-byte-requires Inv-loop μ-loop
-put-byte-requires c κs = search needs
-
 loop-holds : tie.Need-loop-holds Inv-loop μ-loop
 loop-holds c = (search needs, rows-start _ _ _)
-
-add-put-byte : tie.Need-add-put-byte Inv-loop μ-loop
-add-put-byte c = search needs
-
-add-put-byte-2 : tie.Need-add-put-byte-2 Inv-loop μ-loop
-add-put-byte-2 c = search needs
-
-element-copy-out-put-byte : tie.Need-element-copy-out-put-byte Inv-loop μ-loop
-element-copy-out-put-byte c = search needs
-
-put-byte-requires-2 : tie.Need-put-byte-requires-2 Inv-loop μ-loop
-put-byte-requires-2 c κs = search needs
-
-add-k : tie.Need-add-k Inv-loop μ-loop
-add-k c = search needs
-
-loop-less : tie.Need-loop-less Inv-loop μ-loop
-loop-less c = search needs
 
 loop-again : tie.Need-loop-again Inv-loop μ-loop
 loop-again c = (omega arith, rows-turn 1 _ (λ k. refl) _ _ (c .before .before .before .before .before .loop .inv .1) (omega arith) (laid-byte (c .before .before .put-byte2 .ensures)))
@@ -54,18 +30,5 @@ returns c = laid-then 1 (laid-byte (c .before .before .before .before .put-byte 
 
 pub put-line-spec : {M : Type 1} → statement M
 put-line-spec =
-    tie.close
-    (tie.spec
-    Inv-loop
-    μ-loop
-    put-byte-requires
-    loop-holds
-    add-put-byte
-    add-put-byte-2
-    element-copy-out-put-byte
-    put-byte-requires-2
-    add-k
-    loop-less
-    loop-again
-    same-length
-    returns)
+    tie.close (tie.spec Inv-loop μ-loop (λ c κs. search needs) loop-holds (λ c. search needs) (λ c. search needs) (λ c. search needs)
+    (λ c κs. search needs) (λ c. search needs) (λ c. search needs) loop-again same-length returns)

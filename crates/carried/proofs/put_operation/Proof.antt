@@ -1,34 +1,9 @@
 -- `carried::put_operation` meets its contract. Assumes nothing.
 use borrow.Author.Needs.{needs}
 use mathlib.Core.Path.{sym, ap}
-use Rattle.carried.proofs.Rows.{laid-as, laid-length}
-use Rattle.carried.proofs.put_operation.Statement.{statement}
+use Rattle.carried.proofs.{Rows.{laid-as, laid-length}, put_operation.Statement.statement}
 use Rattle.carried.proofs.put_operation.Tie as tie
 use Rattle.carried.specs.Panels.{operationBytes}
-
-enum-told : tie.Need-enum-told
-enum-told c = search needs
-
-put-two-requires : tie.Need-put-two-requires
-put-two-requires c κs = search needs
-
-enum-told-2 : tie.Need-enum-told-2
-enum-told-2 c = search needs
-
-put-two-requires-2 : tie.Need-put-two-requires-2
-put-two-requires-2 c κs = search needs
-
-enum-told-3 : tie.Need-enum-told-3
-enum-told-3 c = search needs
-
-put-two-requires-3 : tie.Need-put-two-requires-3
-put-two-requires-3 c κs = search needs
-
-enum-known-o : tie.Need-enum-known-o
-enum-known-o c = search needs
-
-put-two-requires-4 : tie.Need-put-two-requires-4
-put-two-requires-4 c κs = search needs
 
 same-length : tie.Need-same-length
 same-length c = laid-length (c .before .before .put-two .ensures)
@@ -60,21 +35,6 @@ returns-4 c = laid-as (sym (ap operationBytes (c .before .before .before .before
 
 pub put-operation-spec : {M : Type 1} → statement M
 put-operation-spec =
-    tie.close
-    (tie.spec
-    enum-told
-    put-two-requires
-    enum-told-2
-    put-two-requires-2
-    enum-told-3
-    put-two-requires-3
-    enum-known-o
-    put-two-requires-4
-    same-length
-    returns
-    same-length-2
-    returns-2
-    same-length-3
-    returns-3
-    same-length-4
-    returns-4)
+    tie.close (tie.spec (λ c. search needs) (λ c κs. search needs) (λ c. search needs) (λ c κs. search needs) (λ c. search needs)
+    (λ c κs. search needs) (λ c. search needs) (λ c κs. search needs) same-length returns same-length-2 returns-2 same-length-3 returns-3
+    same-length-4 returns-4)

@@ -1,17 +1,10 @@
 -- `carried::value_place` meets its contract. Assumes nothing.
-use borrow.Author.Needs.{needs}
-use borrow.Author.Tests.{eq-eqb, ne-eqb}
+use borrow.Author.{Needs.needs, Tests.{eq-eqb, ne-eqb}}
 use mathlib.Core.Path.{sym}
 use Rattle.basics.proofs.Choices.{ite-true, ite-false}
 use Rattle.carried.proofs.value_place.Statement.{statement}
 use Rattle.carried.proofs.value_place.Tie as tie
 use Rattle.carried.specs.Panels.{valuePlace}
-
-mul-result : tie.Need-mul-result
-mul-result c = search needs
-
-add-result : tie.Need-add-result
-add-result c = search needs
 
 returns : tie.Need-returns
 unfolding valuePlace
@@ -22,4 +15,4 @@ unfolding valuePlace
 returns-2 c = sym (ite-false _ _ (ne-eqb _ _ (c .if1 .left)))
 
 pub value-place-spec : {M : Type 1} → statement M
-value-place-spec = tie.close (tie.spec mul-result add-result returns returns-2)
+value-place-spec = tie.close (tie.spec (λ c. search needs) (λ c. search needs) returns returns-2)

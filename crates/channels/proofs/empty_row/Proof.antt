@@ -4,15 +4,11 @@ use lib.ListN.{replicate}
 use mathlib.Core.Path.{ap}
 use Rattle.channels.proofs.empty_row.Statement.{statement}
 use Rattle.channels.proofs.empty_row.Tie as tie
-use Rattle.channels.specs.Channels.{emptyRow}
-use Rattle.channels.specs.declared.Channel.{Channel}
-
-empty-channel-requires : tie.Need-empty-channel-requires
-empty-channel-requires c κs = search needs
+use Rattle.channels.specs.{Channels.emptyRow, declared.Channel.Channel}
 
 returns : tie.Need-returns
 unfolding emptyRow
 returns c = ap (λ (e : Channel). record { to = replicate 7 e }) (c .empty-channel .ensures)
 
 pub empty-row-spec : {M : Type 1} → statement M
-empty-row-spec = tie.close (tie.spec empty-channel-requires returns)
+empty-row-spec = tie.close (tie.spec (λ c κs. search needs) returns)

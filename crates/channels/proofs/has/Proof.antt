@@ -2,9 +2,7 @@
 use lib.Dec.{ltb}
 use mathlib.Core.Path.{sym, ap, _∙_}
 use native.Mathlib.Omega.{arith}
-use Rattle.channels.proofs.ByKind.{at-write0, at-write1, at-read, at-proceed, at-other}
-use Rattle.channels.proofs.Flying.{one-there}
-use Rattle.channels.proofs.has.Statement.{statement}
+use Rattle.channels.proofs.{ByKind.{at-write0, at-write1, at-read, at-proceed, at-other}, Flying.one-there, has.Statement.statement}
 use Rattle.channels.proofs.has.Tie as tie
 use Rattle.channels.specs.Channels.{has, inFlight}
 

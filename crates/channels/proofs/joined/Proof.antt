@@ -1,17 +1,12 @@
 -- `channels::joined` meets its contract. Assumes nothing.
-use borrow.Author.Needs.{needs}
-use borrow.Author.Tests.{not-true, not-false}
+use borrow.Author.{Needs.needs, Tests.{not-true, not-false}}
 use mathlib.Core.Path.{_≡_, sym, _∙_}
 use native.Mathlib.Omega.{arith}
 use Rattle.basics.proofs.Choices.{ite-true, ite-false}
-use Rattle.channels.proofs.ByKind.{at-write0, at-write1, at-read, at-proceed}
-use Rattle.channels.proofs.Flying.{room-known, room-read, room-proceed}
+use Rattle.channels.proofs.{ByKind.{at-write0, at-write1, at-read, at-proceed}, Flying.{room-known, room-read, room-proceed}}
 use Rattle.channels.proofs.joined.Statement.{statement}
 use Rattle.channels.proofs.joined.Tie as tie
 use Rattle.channels.specs.Channels.{joined}
-
-room-requires : tie.Need-room-requires
-room-requires c κs = search needs
 
 returns : tie.Need-returns
 unfolding joined
@@ -40,6 +35,4 @@ unfolding joined
 returns-5 c = let h = sym (c .before .before .before .before .before .room .ensures) ∙ not-false _ (c .before .before .before .before .if1 .left) in let k : c .before .before .before .before .before .before .args .kind ≡ 3 = omega (arith, room-known _ _ h) in sym (ite-true _ _ h ∙ at-proceed _ _ _ _ _ k)
 
 pub joined-spec : {M : Type 1} → statement M
-joined-spec =
-    tie.close
-    (tie.spec room-requires returns returns-2 returns-3 add-d returns-4 add-d-2 returns-5)
+joined-spec = tie.close (tie.spec (λ c κs. search needs) returns returns-2 returns-3 add-d returns-4 add-d-2 returns-5)

@@ -2,8 +2,7 @@
 use borrow.Author.Needs.{needs}
 use mathlib.Core.Path.{sym, ap, _∙_}
 use native.Mathlib.Omega.{arith}
-use Rattle.channels.proofs.ByKind.{at-write0, at-write1, at-read, at-proceed, at-other}
-use Rattle.channels.proofs.less.Statement.{statement}
+use Rattle.channels.proofs.{ByKind.{at-write0, at-write1, at-read, at-proceed, at-other}, less.Statement.statement}
 use Rattle.channels.proofs.less.Tie as tie
 use Rattle.channels.specs.Channels.{less, withReads, withProceeds}
 
@@ -15,15 +14,9 @@ returns-2 : tie.Need-returns-2
 unfolding less
 returns-2 c = sym (at-write1 _ _ _ _ _ (c .if2 .taken))
 
-one-less-requires : tie.Need-one-less-requires
-one-less-requires c κs = search needs
-
 returns-3 : tie.Need-returns-3
 unfolding less
 returns-3 c = ap (withReads (c .before .before .before .before .args .c)) (c .one-less .ensures) ∙ sym (at-read _ _ _ _ _ (c .before .if3 .taken))
-
-one-less-requires-2 : tie.Need-one-less-requires-2
-one-less-requires-2 c κs = search needs
 
 returns-4 : tie.Need-returns-4
 unfolding less
@@ -34,13 +27,4 @@ unfolding less
 returns-5 c = sym (at-other _ _ _ _ _ (omega arith))
 
 pub less-spec : {M : Type 1} → statement M
-less-spec =
-    tie.close
-    (tie.spec
-    returns
-    returns-2
-    one-less-requires
-    returns-3
-    one-less-requires-2
-    returns-4
-    returns-5)
+less-spec = tie.close (tie.spec returns returns-2 (λ c κs. search needs) returns-3 (λ c κs. search needs) returns-4 returns-5)

@@ -3,10 +3,8 @@ use Prim.Native.Nat.{_≤_, _-_}
 use borrow.Author.Needs.{needs}
 use mathlib.Core.Path.{_≡_, _∙_}
 use native.Mathlib.Omega.{arith}
-use Rattle.messages.proofs.Messages.{below-none, below-next}
-use Rattle.messages.specs.Sends.{castBelow, castOf}
-use Rattle.channels.proofs.Posting.{posts-none, posts-append}
-use Rattle.channels.proofs.post_cast.Statement.{statement}
+use Rattle.messages.{proofs.Messages.{below-none, below-next}, specs.Sends.{castBelow, castOf}}
+use Rattle.channels.proofs.{Posting.{posts-none, posts-append}, post_cast.Statement.statement}
 use Rattle.channels.proofs.post_cast.Tie as tie
 use Rattle.channels.specs.Posting.{posts}
 
@@ -19,24 +17,6 @@ abbrev μ-loop : tie.MeasureT-loop
 loop-holds : tie.Need-loop-holds Inv-loop μ-loop
 loop-holds c = (search needs, simp (below-none, posts-none))
 
-array-read-post-if : tie.Need-array-read-post-if Inv-loop μ-loop
-array-read-post-if c = search needs
-
-add-post-if : tie.Need-add-post-if Inv-loop μ-loop
-add-post-if c = search needs
-
-cast-post-if : tie.Need-cast-post-if Inv-loop μ-loop
-cast-post-if c = search needs
-
-post-if-requires : tie.Need-post-if-requires Inv-loop μ-loop
-post-if-requires c κs = search needs
-
-add-j : tie.Need-add-j Inv-loop μ-loop
-add-j c = search needs
-
-loop-less : tie.Need-loop-less Inv-loop μ-loop
-loop-less c = search needs
-
 loop-again : tie.Need-loop-again Inv-loop μ-loop
 loop-again c = (omega arith, c .post-if .ensures ∙ simp (below-next, posts-append, c .before .before .loop .inv .1))
 
@@ -46,16 +26,5 @@ returns c = let e : c .before .loop .j ≡ 7 = omega arith in simp (c .before .l
 
 pub post-cast-spec : {M : Type 1} → statement M
 post-cast-spec =
-    tie.close
-    (tie.spec
-    Inv-loop
-    μ-loop
-    loop-holds
-    array-read-post-if
-    add-post-if
-    cast-post-if
-    post-if-requires
-    add-j
-    loop-less
-    loop-again
-    returns)
+    tie.close (tie.spec Inv-loop μ-loop loop-holds (λ c. search needs) (λ c. search needs) (λ c. search needs) (λ c κs. search needs)
+    (λ c. search needs) (λ c. search needs) loop-again returns)

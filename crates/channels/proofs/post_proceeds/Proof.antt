@@ -3,10 +3,8 @@ use Prim.Native.Nat.{_≤_, _-_}
 use borrow.Author.Needs.{needs}
 use mathlib.Core.Path.{_≡_, _∙_}
 use native.Mathlib.Omega.{arith}
-use Rattle.messages.proofs.Messages.{proceeds-none, proceeds-next}
-use Rattle.messages.specs.Sends.{proceedsTo}
-use Rattle.channels.proofs.Posting.{posts-none, posts-one, posts-append}
-use Rattle.channels.proofs.post_proceeds.Statement.{statement}
+use Rattle.messages.{proofs.Messages.{proceeds-none, proceeds-next}, specs.Sends.proceedsTo}
+use Rattle.channels.proofs.{Posting.{posts-none, posts-one, posts-append}, post_proceeds.Statement.statement}
 use Rattle.channels.proofs.post_proceeds.Tie as tie
 use Rattle.channels.specs.Posting.{posts}
 
@@ -19,15 +17,6 @@ abbrev μ-loop : tie.MeasureT-loop
 loop-holds : tie.Need-loop-holds Inv-loop μ-loop
 loop-holds c = (search needs, simp (proceeds-none, posts-none))
 
-post-one-requires : tie.Need-post-one-requires Inv-loop μ-loop
-post-one-requires c κs = search needs
-
-add-i : tie.Need-add-i Inv-loop μ-loop
-add-i c = search needs
-
-loop-less : tie.Need-loop-less Inv-loop μ-loop
-loop-less c = search needs
-
 loop-again : tie.Need-loop-again Inv-loop μ-loop
 loop-again c = (omega arith, c .post-one .ensures ∙ simp (proceeds-next, posts-append, posts-one, c .before .before .loop .inv .1))
 
@@ -36,5 +25,4 @@ returns c = let e : c .before .loop .i ≡ c .before .before .args .m = omega ar
 
 pub post-proceeds-spec : {M : Type 1} → statement M
 post-proceeds-spec =
-    tie.close
-    (tie.spec Inv-loop μ-loop loop-holds post-one-requires add-i loop-less loop-again returns)
+    tie.close (tie.spec Inv-loop μ-loop loop-holds (λ c κs. search needs) (λ c. search needs) (λ c. search needs) loop-again returns)

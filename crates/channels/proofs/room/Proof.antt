@@ -1,8 +1,7 @@
 -- `channels::room` meets its contract. Assumes nothing.
 use mathlib.Core.Path.{sym}
 use native.Mathlib.Omega.{arith}
-use Rattle.channels.proofs.ByKind.{at-write0, at-write1, at-read, at-proceed, at-other}
-use Rattle.channels.proofs.room.Statement.{statement}
+use Rattle.channels.proofs.{ByKind.{at-write0, at-write1, at-read, at-proceed, at-other}, room.Statement.statement}
 use Rattle.channels.proofs.room.Tie as tie
 use Rattle.channels.specs.Channels.{room}
 

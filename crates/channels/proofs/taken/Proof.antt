@@ -4,18 +4,9 @@ use Rattle.channels.proofs.taken.Statement.{statement}
 use Rattle.channels.proofs.taken.Tie as tie
 use Rattle.channels.specs.Posting.{taken}
 
-channel-to-requires : tie.Need-channel-to-requires
-channel-to-requires c κs = search needs
-
-less-requires : tie.Need-less-requires
-less-requires c κs = search needs
-
-with-channel-requires : tie.Need-with-channel-requires
-with-channel-requires c κs = search needs
-
 returns : tie.Need-returns
 unfolding taken
 returns c = simp (c .with-channel .ensures, c .before .less .ensures, c .before .before .channel-to .ensures)
 
 pub taken-spec : {M : Type 1} → statement M
-taken-spec = tie.close (tie.spec channel-to-requires less-requires with-channel-requires returns)
+taken-spec = tie.close (tie.spec (λ c κs. search needs) (λ c κs. search needs) (λ c κs. search needs) returns)

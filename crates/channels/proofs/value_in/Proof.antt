@@ -1,8 +1,7 @@
 -- `channels::value_in` meets its contract. Assumes nothing.
 use Prim.Native.Nat.{ℕ}
 use mathlib.Core.Path.{refl, sym, _≡_}
-use Rattle.channels.proofs.ByKind.{at-write0, at-write1, kind-case}
-use Rattle.channels.proofs.value_in.Statement.{statement}
+use Rattle.channels.proofs.{ByKind.{at-write0, at-write1, kind-case}, value_in.Statement.statement}
 use Rattle.channels.proofs.value_in.Tie as tie
 use Rattle.channels.specs.Channels.{valueIn}
 

@@ -5,17 +5,8 @@ use mathlib.Core.Path.{sym}
 use Rattle.codec.proofs.put_byte.Statement.{statement}
 use Rattle.codec.proofs.put_byte.Tie as tie
 
-slice-write-area : tie.Need-slice-write-area
-slice-write-area c = search needs
-
-same-length : tie.Need-same-length
-same-length c = search needs
-
-returns : tie.Need-returns
-returns c = search needs
-
 returns-2 : tie.Need-returns-2
 returns-2 c = sym (set-out (c .before .args .area .now) (c .before .args .at) (c .before .args .b) (c .if1 .left))
 
 pub put-byte-spec : {M : Type 1} → statement M
-put-byte-spec = tie.close (tie.spec slice-write-area same-length returns returns-2)
+put-byte-spec = tie.close (tie.spec (λ c. search needs) (λ c. search needs) (λ c. search needs) returns-2)

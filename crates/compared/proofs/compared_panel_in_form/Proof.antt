@@ -7,12 +7,6 @@ use Rattle.panel.specs.declared.Panel.{Panel}
 use Rattle.compared.proofs.compared_panel_in_form.Statement.{statement}
 use Rattle.compared.proofs.compared_panel_in_form.Tie as tie
 
-panel-of-requires : tie.Need-panel-of-requires
-panel-of-requires c κs = search needs
-
-in-form-requires : tie.Need-in-form-requires
-in-form-requires c κs = search needs
-
 returns : tie.Need-returns
 unfolding oneIf
 returns c = ap oneIf (sym (c .if1 .taken) ∙ c .before .in-form .ensures ∙ ap (λ (p : Panel). inForm (p .tables)) (c .before .before .panel-of .ensures))
@@ -22,5 +16,4 @@ unfolding oneIf
 returns-2 c = ap oneIf (sym (c .if1 .left) ∙ c .before .in-form .ensures ∙ ap (λ (p : Panel). inForm (p .tables)) (c .before .before .panel-of .ensures))
 
 pub compared-panel-in-form-spec : {M : Type 1} → statement M
-compared-panel-in-form-spec =
-    tie.close (tie.spec panel-of-requires in-form-requires returns returns-2)
+compared-panel-in-form-spec = tie.close (tie.spec (λ c κs. search needs) (λ c κs. search needs) returns returns-2)

@@ -5,15 +5,6 @@ use Rattle.compared.proofs.compared_read_refusal.Statement.{statement}
 use Rattle.compared.proofs.compared_read_refusal.Tie as tie
 use Rattle.compared.specs.Told.{readRefusal}
 
-read-message-requires : tie.Need-read-message-requires
-read-message-requires c κs = search needs
-
-enum-told : tie.Need-enum-told
-enum-told c = search needs
-
-enum-known-r : tie.Need-enum-known-r
-enum-known-r c = search needs
-
 returns : tie.Need-returns
 returns c = ap readRefusal (sym (c .enum-told .given .1) ∙ c .before .before .read-message .ensures)
 
@@ -21,5 +12,4 @@ returns-2 : tie.Need-returns-2
 returns-2 c = ap readRefusal (sym (c .before .r .given .1) ∙ c .before .before .before .read-message .ensures)
 
 pub compared-read-refusal-spec : {M : Type 1} → statement M
-compared-read-refusal-spec =
-    tie.close (tie.spec read-message-requires enum-told enum-known-r returns returns-2)
+compared-read-refusal-spec = tie.close (tie.spec (λ c κs. search needs) (λ c. search needs) (λ c. search needs) returns returns-2)

@@ -5,15 +5,6 @@ use Rattle.compared.proofs.compared_read_used.Statement.{statement}
 use Rattle.compared.proofs.compared_read_used.Tie as tie
 use Rattle.compared.specs.Told.{readUsed}
 
-read-message-requires : tie.Need-read-message-requires
-read-message-requires c κs = search needs
-
-enum-known-used : tie.Need-enum-known-used
-enum-known-used c = search needs
-
-enum-told : tie.Need-enum-told
-enum-told c = search needs
-
 returns : tie.Need-returns
 returns c = ap readUsed (sym (c .before .used .given .1) ∙ c .before .before .before .read-message .ensures)
 
@@ -21,5 +12,4 @@ returns-2 : tie.Need-returns-2
 returns-2 c = ap readUsed (sym (c .enum-told .given .1) ∙ c .before .before .read-message .ensures)
 
 pub compared-read-used-spec : {M : Type 1} → statement M
-compared-read-used-spec =
-    tie.close (tie.spec read-message-requires enum-known-used enum-told returns returns-2)
+compared-read-used-spec = tie.close (tie.spec (λ c κs. search needs) (λ c. search needs) (λ c. search needs) returns returns-2)

@@ -5,11 +5,8 @@ use Rattle.panel.specs.Calls.{panelOf}
 use Rattle.compared.proofs.panel_of.Statement.{statement}
 use Rattle.compared.proofs.panel_of.Tie as tie
 
-panel-from-requires : tie.Need-panel-from-requires
-panel-from-requires c κs = search needs
-
 returns : tie.Need-returns
 returns c = ap panelOf (c .panel-from .ensures)
 
 pub panel-of-spec : {M : Type 1} → statement M
-panel-of-spec = tie.close (tie.spec panel-from-requires returns)
+panel-of-spec = tie.close (tie.spec (λ c κs. search needs) returns)

@@ -6,30 +6,6 @@ use Rattle.compared.proofs.put_answer.Statement.{statement}
 use Rattle.compared.proofs.put_answer.Tie as tie
 use Rattle.compared.specs.Reported.{answerBytes}
 
-enum-known-a : tie.Need-enum-known-a
-enum-known-a c = search needs
-
-put-told-requires : tie.Need-put-told-requires
-put-told-requires c κs = search needs
-
-enum-told : tie.Need-enum-told
-enum-told c = search needs
-
-put-told-requires-2 : tie.Need-put-told-requires-2
-put-told-requires-2 c κs = search needs
-
-enum-known-a-2 : tie.Need-enum-known-a-2
-enum-known-a-2 c = search needs
-
-put-told-requires-3 : tie.Need-put-told-requires-3
-put-told-requires-3 c κs = search needs
-
-enum-known-a-3 : tie.Need-enum-known-a-3
-enum-known-a-3 c = search needs
-
-put-told-requires-4 : tie.Need-put-told-requires-4
-put-told-requires-4 c κs = search needs
-
 same-length : tie.Need-same-length
 same-length c = laid-length (c .before .before .put-told .ensures)
 
@@ -60,21 +36,6 @@ returns-4 c = laid-as (sym (ap answerBytes (c .before .before .before .before .b
 
 pub put-answer-spec : {M : Type 1} → statement M
 put-answer-spec =
-    tie.close
-    (tie.spec
-    enum-known-a
-    put-told-requires
-    enum-told
-    put-told-requires-2
-    enum-known-a-2
-    put-told-requires-3
-    enum-known-a-3
-    put-told-requires-4
-    same-length
-    returns
-    same-length-2
-    returns-2
-    same-length-3
-    returns-3
-    same-length-4
-    returns-4)
+    tie.close (tie.spec (λ c. search needs) (λ c κs. search needs) (λ c. search needs) (λ c κs. search needs) (λ c. search needs)
+    (λ c κs. search needs) (λ c. search needs) (λ c κs. search needs) same-length returns same-length-2 returns-2 same-length-3 returns-3
+    same-length-4 returns-4)

@@ -2,9 +2,7 @@
 use Prim.Native.Nat.{ℕ, _+_, _≤_, _-_}
 use borrow.Author.Needs.{needs}
 use lib.ListN.{drop}
-use mathlib.Core.Bool.{false}
-use mathlib.Core.List.{_++_, append-nil}
-use mathlib.Core.Path.{_≡_}
+use mathlib.Core.{Bool.false, List.{_++_, append-nil}, Path._≡_}
 use native.Mathlib.Omega.{arith}
 use Rattle.basics.specs.Below.{listBelow}
 use Rattle.tables.proofs.Filling.{filled-none, filled-next}
@@ -21,21 +19,6 @@ abbrev μ-loop : tie.MeasureT-loop
 loop-holds : tie.Need-loop-holds Inv-loop μ-loop
 loop-holds c = (search needs, filled-none _ _)
 
-add-flag-from : tie.Need-add-flag-from Inv-loop μ-loop
-add-flag-from c = search needs
-
-flag-from-requires : tie.Need-flag-from-requires Inv-loop μ-loop
-flag-from-requires c κs = search needs
-
-array-write-down : tie.Need-array-write-down Inv-loop μ-loop
-array-write-down c = search needs
-
-add-i : tie.Need-add-i Inv-loop μ-loop
-add-i c = search needs
-
-loop-less : tie.Need-loop-less Inv-loop μ-loop
-loop-less c = search needs
-
 loop-again : tie.Need-loop-again Inv-loop μ-loop
 loop-again c = let i = c .before .before .loop .inv in (omega arith, simp (c .flag-from .ensures, i .1) (filled-next _ false _ _ (omega arith)))
 
@@ -44,15 +27,5 @@ returns c = let e : c .before .loop .i ≡ 7 = omega arith in simp (c .before .l
 
 pub down-from-spec : {M : Type 1} → statement M
 down-from-spec =
-    tie.close
-    (tie.spec
-    Inv-loop
-    μ-loop
-    loop-holds
-    add-flag-from
-    flag-from-requires
-    array-write-down
-    add-i
-    loop-less
-    loop-again
-    returns)
+    tie.close (tie.spec Inv-loop μ-loop loop-holds (λ c. search needs) (λ c κs. search needs) (λ c. search needs) (λ c. search needs)
+    (λ c. search needs) loop-again returns)

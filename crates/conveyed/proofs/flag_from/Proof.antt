@@ -4,12 +4,9 @@ use Rattle.conveyed.proofs.flag_from.Statement.{statement}
 use Rattle.conveyed.proofs.flag_from.Tie as tie
 use Rattle.conveyed.specs.Networks.{flagFrom}
 
-byte-at-requires : tie.Need-byte-at-requires
-byte-at-requires c κs = search needs
-
 returns : tie.Need-returns
 unfolding flagFrom
 returns c = simp (c .byte-at .ensures)
 
 pub flag-from-spec : {M : Type 1} → statement M
-flag-from-spec = tie.close (tie.spec byte-at-requires returns)
+flag-from-spec = tie.close (tie.spec (λ c κs. search needs) returns)

@@ -2,8 +2,7 @@
 use Prim.Native.Nat.{ℕ, _*_, _≤_, _-_}
 use borrow.Author.Needs.{needs}
 use lib.ListN.{drop}
-use mathlib.Core.List.{_++_, append-nil}
-use mathlib.Core.Path.{_≡_}
+use mathlib.Core.{List.{_++_, append-nil}, Path._≡_}
 use native.Mathlib.Omega.{arith}
 use Rattle.basics.specs.Below.{listBelow}
 use Rattle.house.specs.Places.{nobody}
@@ -18,29 +17,8 @@ Inv-loop bytes panels₀ i₀ panels i = (i ≤ 7) × (panels ≡ listBelow i (�
 abbrev μ-loop : tie.MeasureT-loop
 μ-loop bytes panels₀ i₀ panels i = 7 - i
 
-member-from-requires : tie.Need-member-from-requires Inv-loop μ-loop
-member-from-requires c κs = search needs
-
 loop-holds : tie.Need-loop-holds Inv-loop μ-loop
 loop-holds c = (search needs, filled-none _ _)
-
-mul-member-from : tie.Need-mul-member-from Inv-loop μ-loop
-mul-member-from c = search needs
-
-member-from-requires-2 : tie.Need-member-from-requires-2 Inv-loop μ-loop
-member-from-requires-2 c κs = search needs
-
-mul-panels : tie.Need-mul-panels Inv-loop μ-loop
-mul-panels c = search needs
-
-array-set-from-panels : tie.Need-array-set-from-panels Inv-loop μ-loop
-array-set-from-panels c = search needs
-
-add-i : tie.Need-add-i Inv-loop μ-loop
-add-i c = search needs
-
-loop-less : tie.Need-loop-less Inv-loop μ-loop
-loop-less c = search needs
 
 loop-again : tie.Need-loop-again Inv-loop μ-loop
 loop-again c = let i = c .before .before .loop .inv in (omega arith, simp (c .member-from2 .ensures, i .1) (filled-next _ nobody _ _ (omega arith)))
@@ -50,17 +28,5 @@ returns c = let e : c .before .loop .i ≡ 7 = omega arith in simp (c .before .l
 
 pub members-from-spec : {M : Type 1} → statement M
 members-from-spec =
-    tie.close
-    (tie.spec
-    Inv-loop
-    μ-loop
-    member-from-requires
-    loop-holds
-    mul-member-from
-    member-from-requires-2
-    mul-panels
-    array-set-from-panels
-    add-i
-    loop-less
-    loop-again
-    returns)
+    tie.close (tie.spec Inv-loop μ-loop (λ c κs. search needs) loop-holds (λ c. search needs) (λ c κs. search needs) (λ c. search needs)
+    (λ c. search needs) (λ c. search needs) (λ c. search needs) loop-again returns)

@@ -3,12 +3,9 @@ use Prim.Native.Nat.{ℕ, _≤_, _-_}
 use borrow.Author.Needs.{needs}
 use lib.ListN.{getD}
 use native.Mathlib.Omega.{arith}
-use Rattle.carried.proofs.Rows.{laid-length, rows-start, rows-turn, rows-end}
-use Rattle.carried.specs.Laid.{Laid}
-use Rattle.carried.specs.Panels.{rowsBelow}
+use Rattle.carried.{proofs.Rows.{laid-length, rows-start, rows-turn, rows-end}, specs.Laid.Laid, specs.Panels.rowsBelow}
 use Rattle.channels.specs.Channels.{noRow}
-use Rattle.conveyed.proofs.Lengths.{length-row}
-use Rattle.conveyed.proofs.put_rows.Statement.{statement}
+use Rattle.conveyed.proofs.{Lengths.length-row, put_rows.Statement.statement}
 use Rattle.conveyed.proofs.put_rows.Tie as tie
 use Rattle.conveyed.specs.Networks.{rowBytes, rowsBytes}
 
@@ -20,27 +17,6 @@ abbrev μ-loop : tie.MeasureT-loop
 
 loop-holds : tie.Need-loop-holds Inv-loop μ-loop
 loop-holds c = (search needs, rows-start _ _ _)
-
-mul-put-row : tie.Need-mul-put-row Inv-loop μ-loop
-mul-put-row c = search needs
-
-array-copy-out-put-row : tie.Need-array-copy-out-put-row Inv-loop μ-loop
-array-copy-out-put-row c = search needs
-
-mul-put-row-2 : tie.Need-mul-put-row-2 Inv-loop μ-loop
-mul-put-row-2 c = search needs
-
-add-put-row : tie.Need-add-put-row Inv-loop μ-loop
-add-put-row c = search needs
-
-put-row-requires : tie.Need-put-row-requires Inv-loop μ-loop
-put-row-requires c κs = search needs
-
-add-i : tie.Need-add-i Inv-loop μ-loop
-add-i c = search needs
-
-loop-less : tie.Need-loop-less Inv-loop μ-loop
-loop-less c = search needs
 
 loop-again : tie.Need-loop-again Inv-loop μ-loop
 loop-again c = (omega arith, rows-turn 84 _ (λ k. length-row _) 10969 _ (c .before .before .before .before .before .before .loop .inv .1) (omega arith) (c .before .before .put-row .ensures))
@@ -54,18 +30,5 @@ returns c = rows-end _ 7 (omega arith) (c .before .loop .inv .1)
 
 pub put-rows-spec : {M : Type 1} → statement M
 put-rows-spec =
-    tie.close
-    (tie.spec
-    Inv-loop
-    μ-loop
-    loop-holds
-    mul-put-row
-    array-copy-out-put-row
-    mul-put-row-2
-    add-put-row
-    put-row-requires
-    add-i
-    loop-less
-    loop-again
-    same-length
-    returns)
+    tie.close (tie.spec Inv-loop μ-loop loop-holds (λ c. search needs) (λ c. search needs) (λ c. search needs) (λ c. search needs)
+    (λ c κs. search needs) (λ c. search needs) (λ c. search needs) loop-again same-length returns)

@@ -4,18 +4,14 @@
 use mathlib.Core.Path.{_≡_, refl}
 use mir.Syntax.{w32}
 use contract.Running.{givenOf, tables, tablesOf}
-use denote.Triple.Spec.{tripleOf}
-use denote.Triple.Table.{entered, cited}
+use denote.Triple.{Spec.tripleOf, Table.{entered, cited}}
 use Rattle.refusals.specs.Refusals.Event.{write as write·event}
-use Rattle.edges.proofs.Eventing.{Pour}
-use Rattle.edges.proofs.Numbered.{coded, Pack, meets}
+use Rattle.edges.proofs.{Eventing.Pour, Numbered.{coded, Pack, meets}, pack_write.Symbol.name as #edges·pack}
+use Rattle.edges.proofs.{pour.Symbol.name as #edges·pour, write.Key.name as #edges·write}
 use Rattle.edges.proofs.pack_write.Symbol as pack-def
-use Rattle.edges.proofs.pack_write.Symbol.{name as #edges·pack}
 use Rattle.edges.proofs.pack_write.Met as pack-thm
 use Rattle.edges.proofs.pour.Symbol as pour-def
-use Rattle.edges.proofs.pour.Symbol.{name as #edges·pour}
 use Rattle.edges.proofs.pour.Met as pour-thm
-use Rattle.edges.proofs.write.Key.{name as #edges·write}
 use Rattle.edges.proofs.write as write
 use Rattle.edges.proofs.write.Statement as stated
 use Rattle.edges.proofs.write.Code as code

@@ -4,24 +4,6 @@ use Rattle.form.proofs.operation_ok.Statement.{statement}
 use Rattle.form.proofs.operation_ok.Tie as tie
 use Rattle.form.specs.Form.{operationOk}
 
-enum-told : tie.Need-enum-told
-enum-told c = search needs
-
-enum-told-2 : tie.Need-enum-told-2
-enum-told-2 c = search needs
-
-both-requires : tie.Need-both-requires
-both-requires c κs = search needs
-
-enum-told-3 : tie.Need-enum-told-3
-enum-told-3 c = search needs
-
-enum-known-o : tie.Need-enum-known-o
-enum-known-o c = search needs
-
-both-requires-2 : tie.Need-both-requires-2
-both-requires-2 c κs = search needs
-
 returns : tie.Need-returns
 unfolding operationOk
 returns c = simp (c .enum-told .given .1)
@@ -40,15 +22,5 @@ returns-4 c = simp (c .before .before .before .before .before .o .given .1, c .b
 
 pub operation-ok-spec : {M : Type 1} → statement M
 operation-ok-spec =
-    tie.close
-    (tie.spec
-    enum-told
-    enum-told-2
-    both-requires
-    enum-told-3
-    enum-known-o
-    both-requires-2
-    returns
-    returns-2
-    returns-3
-    returns-4)
+    tie.close (tie.spec (λ c. search needs) (λ c. search needs) (λ c κs. search needs) (λ c. search needs) (λ c. search needs)
+    (λ c κs. search needs) returns returns-2 returns-3 returns-4)

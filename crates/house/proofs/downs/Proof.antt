@@ -2,11 +2,9 @@
 use Prim.Native.Nat.{ℕ, _≤_, _-_}
 use borrow.Author.Needs.{needs}
 use lib.ListN.{getD}
-use mathlib.Core.Bool.{false}
-use mathlib.Core.Path.{_≡_, refl}
+use mathlib.Core.{Bool.false, Path.{_≡_, refl}}
 use native.Mathlib.Omega.{arith}
-use Rattle.basics.proofs.Below.{count-next}
-use Rattle.basics.specs.Below.{countBelow}
+use Rattle.basics.{proofs.Below.count-next, specs.Below.countBelow}
 use Rattle.house.proofs.downs.Statement.{statement}
 use Rattle.house.proofs.downs.Tie as tie
 use Rattle.house.specs.NetForm.{downsIn}
@@ -21,20 +19,8 @@ loop-holds : tie.Need-loop-holds Inv-loop μ-loop
 unfolding countBelow
 loop-holds c = (search needs, search needs, refl)
 
-array-read-one-if : tie.Need-array-read-one-if Inv-loop μ-loop
-array-read-one-if c = search needs
-
-one-if-requires : tie.Need-one-if-requires Inv-loop μ-loop
-one-if-requires c κs = search needs
-
 add-m : tie.Need-add-m Inv-loop μ-loop
 add-m c = omega arith
-
-add-i : tie.Need-add-i Inv-loop μ-loop
-add-i c = search needs
-
-loop-less : tie.Need-loop-less Inv-loop μ-loop
-loop-less c = search needs
 
 loop-again : tie.Need-loop-again Inv-loop μ-loop
 loop-again c = let h = c .before .before .loop .inv in (omega arith, omega arith, simp (count-next, c .one-if .ensures .0, h .2))
@@ -45,15 +31,5 @@ returns c = let e : c .before .loop .i ≡ 7 = omega arith in (simp (c .before .
 
 pub downs-spec : {M : Type 1} → statement M
 downs-spec =
-    tie.close
-    (tie.spec
-    Inv-loop
-    μ-loop
-    loop-holds
-    array-read-one-if
-    one-if-requires
-    add-m
-    add-i
-    loop-less
-    loop-again
-    returns)
+    tie.close (tie.spec Inv-loop μ-loop loop-holds (λ c. search needs) (λ c κs. search needs) add-m (λ c. search needs) (λ c. search needs)
+    loop-again returns)

@@ -1,7 +1,6 @@
 -- `house::panels_shaped` meets its contract. Assumes nothing.
 use Prim.Native.Nat.{ℕ, _≤_, _<_, _-_}
-use borrow.Author.Count.{below-more}
-use borrow.Author.Needs.{needs}
+use borrow.Author.{Count.below-more, Needs.needs}
 use native.Mathlib.Omega.{arith}
 use Rattle.form.proofs.Shape.{Shaped}
 use Rattle.house.proofs.panels_shaped.Statement.{statement}
@@ -17,21 +16,6 @@ abbrev μ-loop : tie.MeasureT-loop
 loop-holds : tie.Need-loop-holds Inv-loop μ-loop
 loop-holds c = (omega arith, λ k h. absurd (omega arith))
 
-mul-p : tie.Need-mul-p Inv-loop μ-loop
-mul-p c = search needs
-
-element-copy-out-p : tie.Need-element-copy-out-p Inv-loop μ-loop
-element-copy-out-p c = search needs
-
-shaped-requires : tie.Need-shaped-requires Inv-loop μ-loop
-shaped-requires c κs = search needs
-
-add-i : tie.Need-add-i Inv-loop μ-loop
-add-i c = search needs
-
-loop-less : tie.Need-loop-less Inv-loop μ-loop
-loop-less c = search needs
-
 loop-again : tie.Need-loop-again Inv-loop μ-loop
 loop-again c = (omega arith, below-more _ _ (c .before .before .before .before .loop .inv .1) (c .shaped .ensures))
 
@@ -40,15 +24,5 @@ returns c = λ i h. c .before .loop .inv .1 i (omega (arith, c .loop-test .left)
 
 pub panels-shaped-spec : {M : Type 1} → statement M
 panels-shaped-spec =
-    tie.close
-    (tie.spec
-    Inv-loop
-    μ-loop
-    loop-holds
-    mul-p
-    element-copy-out-p
-    shaped-requires
-    add-i
-    loop-less
-    loop-again
-    returns)
+    tie.close (tie.spec Inv-loop μ-loop loop-holds (λ c. search needs) (λ c. search needs) (λ c κs. search needs) (λ c. search needs)
+    (λ c. search needs) loop-again returns)

@@ -1,7 +1,6 @@
 -- `house::rows_long` meets its contract. Assumes nothing.
 use Prim.Native.Nat.{ℕ, _≤_, _<_, _-_}
-use borrow.Author.Count.{below-more}
-use borrow.Author.Needs.{needs}
+use borrow.Author.{Count.below-more, Needs.needs}
 use lib.ListN.{length}
 use mathlib.Core.Path.{_≡_}
 use native.Mathlib.Omega.{arith}
@@ -18,21 +17,6 @@ abbrev μ-loop : tie.MeasureT-loop
 loop-holds : tie.Need-loop-holds Inv-loop μ-loop
 loop-holds c = (omega arith, λ k h. absurd (omega arith))
 
-mul-row : tie.Need-mul-row Inv-loop μ-loop
-mul-row c = search needs
-
-element-copy-out-row : tie.Need-element-copy-out-row Inv-loop μ-loop
-element-copy-out-row c = search needs
-
-row-long-requires : tie.Need-row-long-requires Inv-loop μ-loop
-row-long-requires c κs = search needs
-
-add-i : tie.Need-add-i Inv-loop μ-loop
-add-i c = search needs
-
-loop-less : tie.Need-loop-less Inv-loop μ-loop
-loop-less c = search needs
-
 loop-again : tie.Need-loop-again Inv-loop μ-loop
 loop-again c = (omega arith, below-more _ _ (c .before .before .before .loop .inv .1) (c .row-long .ensures))
 
@@ -41,15 +25,5 @@ returns c = λ i h. c .before .loop .inv .1 i (omega (arith, c .loop-test .left)
 
 pub rows-long-spec : {M : Type 1} → statement M
 rows-long-spec =
-    tie.close
-    (tie.spec
-    Inv-loop
-    μ-loop
-    loop-holds
-    mul-row
-    element-copy-out-row
-    row-long-requires
-    add-i
-    loop-less
-    loop-again
-    returns)
+    tie.close (tie.spec Inv-loop μ-loop loop-holds (λ c. search needs) (λ c. search needs) (λ c κs. search needs) (λ c. search needs)
+    (λ c. search needs) loop-again returns)

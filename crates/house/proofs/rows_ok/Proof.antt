@@ -3,8 +3,7 @@ use Prim.Native.Nat.{_≤_, _-_}
 use borrow.Author.Needs.{needs}
 use mathlib.Core.Path.{_≡_, refl}
 use native.Mathlib.Omega.{arith}
-use Rattle.basics.proofs.Below.{all-next}
-use Rattle.basics.specs.Below.{allBelow}
+use Rattle.basics.{proofs.Below.all-next, specs.Below.allBelow}
 use Rattle.house.proofs.rows_ok.Statement.{statement}
 use Rattle.house.proofs.rows_ok.Tie as tie
 use Rattle.house.specs.NetForm.{channelsOk}
@@ -15,30 +14,9 @@ Inv-loop s n ok₀ i₀ ok i = (i ≤ 7) × (ok ≡ allBelow i (channelsOk s))
 abbrev μ-loop : tie.MeasureT-loop
 μ-loop s n ok₀ i₀ ok i = 7 - i
 
-element-copy-out-first : tie.Need-element-copy-out-first Inv-loop μ-loop
-element-copy-out-first c = search needs
-
 loop-holds : tie.Need-loop-holds Inv-loop μ-loop
 unfolding allBelow
 loop-holds c = (omega arith, refl)
-
-mul-row : tie.Need-mul-row Inv-loop μ-loop
-mul-row c = search needs
-
-element-copy-out-row : tie.Need-element-copy-out-row Inv-loop μ-loop
-element-copy-out-row c = search needs
-
-row-ok-requires : tie.Need-row-ok-requires Inv-loop μ-loop
-row-ok-requires c κs = search needs
-
-both-requires : tie.Need-both-requires Inv-loop μ-loop
-both-requires c κs = search needs
-
-add-i : tie.Need-add-i Inv-loop μ-loop
-add-i c = search needs
-
-loop-less : tie.Need-loop-less Inv-loop μ-loop
-loop-less c = search needs
 
 loop-again : tie.Need-loop-again Inv-loop μ-loop
 unfolding channelsOk
@@ -49,17 +27,5 @@ returns c = let e : c .before .loop .i ≡ 7 = omega arith in simp (c .before .l
 
 pub rows-ok-spec : {M : Type 1} → statement M
 rows-ok-spec =
-    tie.close
-    (tie.spec
-    Inv-loop
-    μ-loop
-    element-copy-out-first
-    loop-holds
-    mul-row
-    element-copy-out-row
-    row-ok-requires
-    both-requires
-    add-i
-    loop-less
-    loop-again
-    returns)
+    tie.close (tie.spec Inv-loop μ-loop (λ c. search needs) loop-holds (λ c. search needs) (λ c. search needs) (λ c κs. search needs)
+    (λ c κs. search needs) (λ c. search needs) (λ c. search needs) loop-again returns)

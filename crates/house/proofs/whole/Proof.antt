@@ -6,12 +6,6 @@ use Rattle.house.proofs.whole.Statement.{statement}
 use Rattle.house.proofs.whole.Tie as tie
 use Rattle.house.specs.Whole.{Whole}
 
-panels-shaped-requires : tie.Need-panels-shaped-requires
-panels-shaped-requires c κs = search needs
-
-rows-long-requires : tie.Need-rows-long-requires
-rows-long-requires c κs = search needs
-
 returns : tie.Need-returns
 returns c =
     let start = c .before .before in
@@ -26,4 +20,4 @@ returns c =
     (refl, lengths)
 
 pub whole-spec : {M : Type 1} → statement M
-whole-spec = tie.close (tie.spec panels-shaped-requires rows-long-requires returns)
+whole-spec = tie.close (tie.spec (λ c κs. search needs) (λ c κs. search needs) returns)

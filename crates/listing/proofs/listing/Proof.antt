@@ -2,24 +2,17 @@
 use borrow.Author.Needs.{needs}
 use mathlib.Core.Path.{sym, _∙_}
 use native.Mathlib.Omega.{arith}
-use Rattle.listing.proofs.Answering.{too-long, not-too-long, too-long-9, short, done}
-use Rattle.listing.proofs.listing.Statement.{statement}
+use Rattle.listing.proofs.{Answering.{too-long, not-too-long, too-long-9, short, done}, listing.Statement.statement}
 use Rattle.listing.proofs.listing.Tie as tie
 
 returns : tie.Need-returns
 returns c = (short _ _ (c .if1 .taken), omega arith)
-
-too-long-requires : tie.Need-too-long-requires
-too-long-requires c κs = search needs
 
 slice-aggregate-put-all : tie.Need-slice-aggregate-put-all
 slice-aggregate-put-all c = sym (too-long-9 (c .before .before .too-long .ensures))
 
 put-all-requires : tie.Need-put-all-requires
 put-all-requires c κs = omega (arith, too-long-9 (c .before .before .too-long .ensures))
-
-same-length : tie.Need-same-length
-same-length c = search needs
 
 returns-2 : tie.Need-returns-2
 returns-2 c = (
@@ -34,12 +27,6 @@ returns-2 c = (
   ),
 )
 
-put-lines-requires : tie.Need-put-lines-requires
-put-lines-requires c κs = search needs
-
-same-length-2 : tie.Need-same-length-2
-same-length-2 c = search needs
-
 returns-3 : tie.Need-returns-3
 returns-3 c = (
   done _ _ (c .before .before .before .before .before .if1 .left) (sym (not-too-long _ (c .before .before .before .before .if2 .left)))
@@ -49,14 +36,5 @@ returns-3 c = (
 
 pub listing-spec : {M : Type 1} → statement M
 listing-spec =
-    tie.close
-    (tie.spec
-    returns
-    too-long-requires
-    slice-aggregate-put-all
-    put-all-requires
-    same-length
-    returns-2
-    put-lines-requires
-    same-length-2
-    returns-3)
+    tie.close (tie.spec returns (λ c κs. search needs) slice-aggregate-put-all put-all-requires (λ c. search needs) returns-2
+    (λ c κs. search needs) (λ c. search needs) returns-3)

@@ -1,15 +1,8 @@
 -- `listing::put_line` meets its contract. Assumes nothing.
 use borrow.Author.Needs.{needs}
 use native.Mathlib.Omega.{arith}
-use Rattle.listing.proofs.Laying.{text-within, text-count, line-put}
-use Rattle.listing.proofs.put_line.Statement.{statement}
+use Rattle.listing.proofs.{Laying.{text-within, text-count, line-put}, put_line.Statement.statement}
 use Rattle.listing.proofs.put_line.Tie as tie
-
-numbered-requires : tie.Need-numbered-requires
-numbered-requires c κs = search needs
-
-line-text-requires : tie.Need-line-text-requires
-line-text-requires c κs = search needs
 
 array-share-prefix-bytes : tie.Need-array-share-prefix-bytes
 array-share-prefix-bytes c = text-within _ (c .before .before .line-text .ensures .0) (c .before .before .line-text .ensures .1)
@@ -26,9 +19,6 @@ put-all-requires c κs = omega (
   c .before .before .before .before .before .before .pre .0,
 )
 
-same-length : tie.Need-same-length
-same-length c = search needs
-
 returns : tie.Need-returns
 returns c = line-put (c .before .before .before .before .before .before .before .before .before .args .l) _ _
     (c .before .before .before .before .before .before .before .numbered .ensures)
@@ -39,12 +29,5 @@ returns c = line-put (c .before .before .before .before .before .before .before 
 
 pub put-line-spec : {M : Type 1} → statement M
 put-line-spec =
-    tie.close
-    (tie.spec
-    numbered-requires
-    line-text-requires
-    array-share-prefix-bytes
-    slice-aggregate-put-all
-    put-all-requires
-    same-length
-    returns)
+    tie.close (tie.spec (λ c κs. search needs) (λ c κs. search needs) array-share-prefix-bytes slice-aggregate-put-all put-all-requires
+    (λ c. search needs) returns)

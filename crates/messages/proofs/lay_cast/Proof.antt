@@ -4,11 +4,9 @@ use borrow.Author.Needs.{needs}
 use mathlib.Core.Path.{_≡_, ap}
 use native.Mathlib.Omega.{arith}
 use Rattle.messages.proofs.Laying.{further-as, further-then, further-none, further-lengths}
-use Rattle.messages.proofs.Messages.{below-none, below-next, below-most}
-use Rattle.messages.proofs.lay_cast.Statement.{statement}
+use Rattle.messages.proofs.{Messages.{below-none, below-next, below-most}, lay_cast.Statement.statement}
 use Rattle.messages.proofs.lay_cast.Tie as tie
-use Rattle.messages.specs.Area.{Further}
-use Rattle.messages.specs.Sends.{castBelow, castOf}
+use Rattle.messages.specs.{Area.Further, Sends.{castBelow, castOf}}
 
 abbrev Inv-loop : tie.InvT-loop
 Inv-loop c from receivers₀ kinds₀ values₀ to at₀ j₀ receivers kinds values at j = (j ≤ 7) × Further (record { count = from; area = record { receivers = receivers₀; kinds = kinds₀; values = values₀ } }) (castBelow j c) (record { count = at; area = record { receivers = receivers; kinds = kinds; values = values } })
@@ -19,23 +17,8 @@ abbrev μ-loop : tie.MeasureT-loop
 loop-holds : tie.Need-loop-holds Inv-loop μ-loop
 loop-holds c = (search needs, further-as (below-none _) further-none)
 
-array-read-put-if : tie.Need-array-read-put-if Inv-loop μ-loop
-array-read-put-if c = search needs
-
-add-put-if : tie.Need-add-put-if Inv-loop μ-loop
-add-put-if c = search needs
-
-cast-put-if : tie.Need-cast-put-if Inv-loop μ-loop
-cast-put-if c = search needs
-
 put-if-requires : tie.Need-put-if-requires Inv-loop μ-loop
 put-if-requires c κs = omega (arith, c .before .before .before .before .loop .inv .1 .count-is, below-most (c .before .before .before .before .loop .j) (c .before .before .before .before .before .before .before .before .before .args .c))
-
-add-j : tie.Need-add-j Inv-loop μ-loop
-add-j c = search needs
-
-loop-less : tie.Need-loop-less Inv-loop μ-loop
-loop-less c = search needs
 
 loop-again : tie.Need-loop-again Inv-loop μ-loop
 loop-again c = (omega arith, further-as (below-next _ _) (further-then (c .before .before .before .before .before .before .before .before .before .before .before .loop .inv .1) (c .before .before .before .before .before .before .put-if .ensures)))
@@ -55,19 +38,5 @@ returns c = let e : 7 ≡ c .before .loop .j = omega arith in further-as (ap (λ
 
 pub lay-cast-spec : {M : Type 1} → statement M
 lay-cast-spec =
-    tie.close
-    (tie.spec
-    Inv-loop
-    μ-loop
-    loop-holds
-    array-read-put-if
-    add-put-if
-    cast-put-if
-    put-if-requires
-    add-j
-    loop-less
-    loop-again
-    same-length
-    same-length-2
-    same-length-3
-    returns)
+    tie.close (tie.spec Inv-loop μ-loop loop-holds (λ c. search needs) (λ c. search needs) (λ c. search needs) put-if-requires
+    (λ c. search needs) (λ c. search needs) loop-again same-length same-length-2 same-length-3 returns)

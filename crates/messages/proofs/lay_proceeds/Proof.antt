@@ -5,11 +5,9 @@ use mathlib.Core.Path.{_≡_, refl, sym, ap}
 use native.Mathlib.Omega.{arith}
 use Rattle.basics.proofs.Choices.{ite-true}
 use Rattle.messages.proofs.Laying.{further-as, further-then, further-none, further-lengths}
-use Rattle.messages.proofs.Messages.{proceeds-none, proceeds-next, length-proceeds}
-use Rattle.messages.proofs.lay_proceeds.Statement.{statement}
+use Rattle.messages.proofs.{Messages.{proceeds-none, proceeds-next, length-proceeds}, lay_proceeds.Statement.statement}
 use Rattle.messages.proofs.lay_proceeds.Tie as tie
-use Rattle.messages.specs.Area.{Further}
-use Rattle.messages.specs.Sends.{proceedsTo}
+use Rattle.messages.specs.{Area.Further, Sends.proceedsTo}
 
 abbrev Inv-loop : tie.InvT-loop
 Inv-loop peer m from receivers₀ kinds₀ values₀ at₀ i₀ receivers kinds values at i = (i ≤ m) × Further (record { count = from; area = record { receivers = receivers₀; kinds = kinds₀; values = values₀ } }) (proceedsTo i peer) (record { count = at; area = record { receivers = receivers; kinds = kinds; values = values } })
@@ -22,12 +20,6 @@ loop-holds c = (search needs, further-as (proceeds-none _) further-none)
 
 put-if-requires : tie.Need-put-if-requires Inv-loop μ-loop
 put-if-requires c κs = omega (arith, c .before .before .before .before .loop .inv .1 .count-is, length-proceeds (c .before .before .before .before .loop .i) (c .before .before .before .before .before .before .before .before .args .peer), c .before .before .before .before .before .before .before .before .fits, c .before .before .before .before .before .before .before .before .pre)
-
-add-i : tie.Need-add-i Inv-loop μ-loop
-add-i c = search needs
-
-loop-less : tie.Need-loop-less Inv-loop μ-loop
-loop-less c = search needs
 
 loop-again : tie.Need-loop-again Inv-loop μ-loop
 loop-again c = (omega arith, further-as (proceeds-next _ _) (further-then (c .before .before .before .before .before .before .before .before .before .before .before .loop .inv .1) (further-as (sym (ite-true _ _ refl)) (c .before .before .before .before .before .before .put-if .ensures))))
@@ -46,16 +38,5 @@ returns c = let e : c .before .before .before .before .before .args .m ≡ c .be
 
 pub lay-proceeds-spec : {M : Type 1} → statement M
 lay-proceeds-spec =
-    tie.close
-    (tie.spec
-    Inv-loop
-    μ-loop
-    loop-holds
-    put-if-requires
-    add-i
-    loop-less
-    loop-again
-    same-length
-    same-length-2
-    same-length-3
-    returns)
+    tie.close (tie.spec Inv-loop μ-loop loop-holds put-if-requires (λ c. search needs) (λ c. search needs) loop-again same-length
+    same-length-2 same-length-3 returns)

@@ -5,20 +5,8 @@ use mathlib.Core.Path.{sym}
 use Rattle.messages.proofs.put_value.Statement.{statement}
 use Rattle.messages.proofs.put_value.Tie as tie
 
-mul-area : tie.Need-mul-area
-mul-area c = search needs
-
-slice-write-area : tie.Need-slice-write-area
-slice-write-area c = search needs
-
-same-length : tie.Need-same-length
-same-length c = search needs
-
-returns : tie.Need-returns
-returns c = search needs
-
 returns-2 : tie.Need-returns-2
 returns-2 c = sym (set-out _ _ _ (c .if1 .left))
 
 pub put-value-spec : {M : Type 1} → statement M
-put-value-spec = tie.close (tie.spec mul-area slice-write-area same-length returns returns-2)
+put-value-spec = tie.close (tie.spec (λ c. search needs) (λ c. search needs) (λ c. search needs) (λ c. search needs) returns-2)

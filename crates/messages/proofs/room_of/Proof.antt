@@ -5,15 +5,9 @@ use Rattle.messages.proofs.room_of.Statement.{statement}
 use Rattle.messages.proofs.room_of.Tie as tie
 use Rattle.messages.specs.Area.{roomOf}
 
-least-requires : tie.Need-least-requires
-least-requires c κs = search needs
-
-least-requires-2 : tie.Need-least-requires-2
-least-requires-2 c κs = search needs
-
 returns : tie.Need-returns
 unfolding roomOf
 returns c = omega arith
 
 pub room-of-spec : {M : Type 1} → statement M
-room-of-spec = tie.close (tie.spec least-requires least-requires-2 returns)
+room-of-spec = tie.close (tie.spec (λ c κs. search needs) (λ c κs. search needs) returns)

@@ -1,17 +1,10 @@
 -- `network::drain` meets its contract. Assumes nothing.
-use borrow.Author.Needs.{needs}
-use borrow.Author.Tests.{not-true, not-false}
+use borrow.Author.{Needs.needs, Tests.{not-true, not-false}}
 use mathlib.Core.Path.{sym, _∙_}
 use Rattle.basics.proofs.Choices.{ite-true, ite-false}
 use Rattle.steps.specs.Drain.{drained}
 use Rattle.network.proofs.drain.Statement.{statement}
 use Rattle.network.proofs.drain.Tie as tie
-
-in-form-requires : tie.Need-in-form-requires
-in-form-requires c κs = search needs
-
-drained-to-requires : tie.Need-drained-to-requires
-drained-to-requires c κs = search needs
 
 returns : tie.Need-returns
 unfolding drained
@@ -25,5 +18,4 @@ unfolding drained
 returns-2 c = c .drain-in .ensures ∙ sym (ite-true _ _ (sym (c .before .before .in-form .ensures) ∙ not-false _ (c .before .if1 .left)))
 
 pub drain-spec : {M : Type 1} → statement M
-drain-spec =
-    tie.close (tie.spec in-form-requires drained-to-requires returns drain-in-requires returns-2)
+drain-spec = tie.close (tie.spec (λ c κs. search needs) (λ c κs. search needs) returns drain-in-requires returns-2)

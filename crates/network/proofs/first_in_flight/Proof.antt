@@ -5,11 +5,8 @@ use Rattle.house.proofs.Searching.{by-flying}
 use Rattle.network.proofs.first_in_flight.Statement.{statement}
 use Rattle.network.proofs.first_in_flight.Tie as tie
 
-first-in-flight-requires : tie.Need-first-in-flight-requires
-first-in-flight-requires c κs = search needs
-
 returns : tie.Need-returns
 returns c = c .first-in-flight .ensures ∙ by-flying _
 
 pub first-in-flight-spec : {M : Type 1} → statement M
-first-in-flight-spec = tie.close (tie.spec first-in-flight-requires returns)
+first-in-flight-spec = tie.close (tie.spec (λ c κs. search needs) returns)

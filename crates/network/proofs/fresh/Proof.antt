@@ -4,15 +4,9 @@ use Rattle.steps.specs.SetUp.{freshNetwork}
 use Rattle.network.proofs.fresh.Statement.{statement}
 use Rattle.network.proofs.fresh.Tie as tie
 
-fresh-panels-requires : tie.Need-fresh-panels-requires
-fresh-panels-requires c κs = search needs
-
-empty-row-requires : tie.Need-empty-row-requires
-empty-row-requires c κs = search needs
-
 returns : tie.Need-returns
 unfolding freshNetwork
 returns c = simp (c .before .fresh-panels .ensures, c .empty-row .ensures)
 
 pub fresh-spec : {M : Type 1} → statement M
-fresh-spec = tie.close (tie.spec fresh-panels-requires empty-row-requires returns)
+fresh-spec = tie.close (tie.spec (λ c κs. search needs) (λ c κs. search needs) returns)

@@ -5,11 +5,8 @@ use Rattle.panel.specs.declared.Made.{Made}
 use Rattle.network.proofs.fresh_panel.Statement.{statement}
 use Rattle.network.proofs.fresh_panel.Tie as tie
 
-set-up-requires : tie.Need-set-up-requires
-set-up-requires c κs = search needs
-
 returns : tie.Need-returns
 returns c = ap (λ (m : Made). m .panel) (c .before .set-up .ensures)
 
 pub fresh-panel-spec : {M : Type 1} → statement M
-fresh-panel-spec = tie.close (tie.spec set-up-requires returns)
+fresh-panel-spec = tie.close (tie.spec (λ c κs. search needs) returns)

@@ -1,23 +1,12 @@
 -- `network::lose_power` meets its contract. Assumes nothing.
-use borrow.Author.Needs.{needs}
-use borrow.Author.Tests.{not-true, not-false}
+use borrow.Author.{Needs.needs, Tests.{not-true, not-false}}
 use mathlib.Core.Path.{sym, _∙_}
 use Rattle.steps.proofs.Settling.{checked-refused, checked-in-form}
-use Rattle.network.proofs.Calls.{a-loss}
-use Rattle.network.proofs.lose_power.Statement.{statement}
+use Rattle.network.proofs.{Calls.a-loss, lose_power.Statement.statement}
 use Rattle.network.proofs.lose_power.Tie as tie
-
-in-form-requires : tie.Need-in-form-requires
-in-form-requires c κs = search needs
-
-refused-requires : tie.Need-refused-requires
-refused-requires c κs = search needs
 
 returns : tie.Need-returns
 returns c = c .refused .ensures ∙ sym (checked-refused _ _ (sym (c .before .before .in-form .ensures) ∙ not-true _ (c .before .if1 .taken)))
-
-step-at-requires : tie.Need-step-at-requires
-step-at-requires c κs = search needs
 
 step-in-requires : tie.Need-step-in-requires
 step-in-requires c κs = sym (c .before .before .in-form .ensures) ∙ not-false _ (c .before .if1 .left)
@@ -27,11 +16,4 @@ returns-2 c = a-loss _ (c .step-in .ensures) (c .before .step-at .ensures) ∙ s
 
 pub lose-power-spec : {M : Type 1} → statement M
 lose-power-spec =
-    tie.close
-    (tie.spec
-    in-form-requires
-    refused-requires
-    returns
-    step-at-requires
-    step-in-requires
-    returns-2)
+    tie.close (tie.spec (λ c κs. search needs) (λ c κs. search needs) returns (λ c κs. search needs) step-in-requires returns-2)

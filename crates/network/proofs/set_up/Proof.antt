@@ -6,12 +6,6 @@ use Rattle.steps.specs.SetUp.{setUp}
 use Rattle.network.proofs.set_up.Statement.{statement}
 use Rattle.network.proofs.set_up.Tie as tie
 
-fits-requires : tie.Need-fits-requires
-fits-requires c κs = search needs
-
-fresh-requires : tie.Need-fresh-requires
-fresh-requires c κs = search needs
-
 returns : tie.Need-returns
 unfolding setUp ite
 returns c = simp (c .before .fresh .ensures, sym (c .before .before .fits2 .ensures), c .if1 .taken)
@@ -21,4 +15,4 @@ unfolding setUp ite
 returns-2 c = simp (c .before .fresh .ensures, sym (c .before .before .fits2 .ensures), c .if1 .left)
 
 pub set-up-spec : {M : Type 1} → statement M
-set-up-spec = tie.close (tie.spec fits-requires fresh-requires returns returns-2)
+set-up-spec = tie.close (tie.spec (λ c κs. search needs) (λ c κs. search needs) returns returns-2)

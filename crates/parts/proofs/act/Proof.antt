@@ -1,30 +1,17 @@
 -- `parts::act` meets its contract. Assumes nothing.
 use borrow.Author.Needs.{needs}
 use mathlib.Core.Path.{_∙_}
-use Rattle.parts.proofs.Trials.{acts-write, acts-read, acts-deliver, acts-lose, acts-none}
-use Rattle.parts.proofs.act.Statement.{statement}
+use Rattle.parts.proofs.{Trials.{acts-write, acts-read, acts-deliver, acts-lose, acts-none}, act.Statement.statement}
 use Rattle.parts.proofs.act.Tie as tie
-
-write-requires : tie.Need-write-requires
-write-requires c κs = search needs
 
 returns : tie.Need-returns
 returns c = c .write .ensures ∙ acts-write _ _ (c .before .if1 .taken)
 
-read-requires : tie.Need-read-requires
-read-requires c κs = search needs
-
 returns-2 : tie.Need-returns-2
 returns-2 c = c .read .ensures ∙ acts-read _ _ (c .before .before .before .if1 .left) (c .before .if2 .taken)
 
-deliver-requires : tie.Need-deliver-requires
-deliver-requires c κs = search needs
-
 returns-3 : tie.Need-returns-3
 returns-3 c = c .deliver .ensures ∙ acts-deliver _ _ (c .before .before .before .before .before .if1 .left) (c .before .before .before .if2 .left) (c .before .if3 .taken)
-
-lose-requires : tie.Need-lose-requires
-lose-requires c κs = search needs
 
 returns-4 : tie.Need-returns-4
 returns-4 c = c .lose .ensures ∙ acts-lose _ _ (c .before .before .before .before .before .before .before .if1 .left) (c .before .before .before .before .before .if2 .left) (c .before .before .before .if3 .left) (c .before .if4 .taken)
@@ -34,14 +21,5 @@ returns-5 c = acts-none _ _ (c .before .before .before .before .before .before .
 
 pub act-spec : {M : Type 1} → statement M
 act-spec =
-    tie.close
-    (tie.spec
-    write-requires
-    returns
-    read-requires
-    returns-2
-    deliver-requires
-    returns-3
-    lose-requires
-    returns-4
-    returns-5)
+    tie.close (tie.spec (λ c κs. search needs) returns (λ c κs. search needs) returns-2 (λ c κs. search needs) returns-3
+    (λ c κs. search needs) returns-4 returns-5)

@@ -5,18 +5,6 @@ use Rattle.promise.specs.View.{codeOf}
 use Rattle.parts.proofs.code_of.Statement.{statement}
 use Rattle.parts.proofs.code_of.Tie as tie
 
-enum-known-a : tie.Need-enum-known-a
-enum-known-a c = search needs
-
-enum-told : tie.Need-enum-told
-enum-told c = search needs
-
-enum-told-2 : tie.Need-enum-told-2
-enum-told-2 c = search needs
-
-enum-told-3 : tie.Need-enum-told-3
-enum-told-3 c = search needs
-
 returns : tie.Need-returns
 unfolding codeOf
 returns c = sym (ap codeOf (c .before .a .given .1))
@@ -35,5 +23,5 @@ returns-4 c = sym (ap codeOf (c .enum-told3 .given .1))
 
 pub code-of-spec : {M : Type 1} → statement M
 code-of-spec =
-    tie.close
-    (tie.spec enum-known-a enum-told enum-told-2 enum-told-3 returns returns-2 returns-3 returns-4)
+    tie.close (tie.spec (λ c. search needs) (λ c. search needs) (λ c. search needs) (λ c. search needs) returns returns-2 returns-3
+    returns-4)

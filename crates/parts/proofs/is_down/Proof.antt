@@ -2,17 +2,10 @@
 use Prim.Native.Nat.{ℕ}
 use borrow.Author.Needs.{needs}
 use lib.ListN.{length, getD, List·getD-eq-default}
-use mathlib.Core.Bool.{false}
-use mathlib.Core.Path.{_≡_, sym, ap}
+use mathlib.Core.{Bool.false, Path.{_≡_, sym, ap}}
 use native.Mathlib.Omega.{arith}
 use Rattle.parts.proofs.is_down.Statement.{statement}
 use Rattle.parts.proofs.is_down.Tie as tie
-
-place-of-requires : tie.Need-place-of-requires
-place-of-requires c κs = search needs
-
-array-read-result : tie.Need-array-read-result
-array-read-result c = search needs
 
 returns : tie.Need-returns
 returns c = ap (λ (k : ℕ). getD (c .before .before .args .t1) k false) (c .before .place-of .ensures)
@@ -22,4 +15,4 @@ returns-2 c = let long : length (c .before .before .args .t1) ≡ 7 = c .before 
     sym (List·getD-eq-default (c .before .before .args .t1) false (omega (arith, c .if1 .left, c .before .place-of .ensures)))
 
 pub is-down-spec : {M : Type 1} → statement M
-is-down-spec = tie.close (tie.spec place-of-requires array-read-result returns returns-2)
+is-down-spec = tie.close (tie.spec (λ c κs. search needs) (λ c. search needs) returns returns-2)

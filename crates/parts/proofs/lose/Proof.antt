@@ -1,55 +1,22 @@
 -- `parts::lose` meets its contract. Assumes nothing.
 use borrow.Author.Needs.{needs}
 use mathlib.Core.Path.{_∙_}
-use Rattle.parts.proofs.Trials.{lose-nobody, lose-down, lose-too-many, lose-more}
-use Rattle.parts.proofs.lose.Statement.{statement}
+use Rattle.parts.proofs.{Trials.{lose-nobody, lose-down, lose-too-many, lose-more}, lose.Statement.statement}
 use Rattle.parts.proofs.lose.Tie as tie
-
-is-panel-requires : tie.Need-is-panel-requires
-is-panel-requires c κs = search needs
-
-refused-requires : tie.Need-refused-requires
-refused-requires c κs = search needs
 
 returns : tie.Need-returns
 returns c = c .refused .ensures ∙ lose-nobody _ _ (c .before .before .is-panel .ensures) (c .before .if1 .taken)
 
-is-down-requires : tie.Need-is-down-requires
-is-down-requires c κs = search needs
-
-refused-requires-2 : tie.Need-refused-requires-2
-refused-requires-2 c κs = search needs
-
 returns-2 : tie.Need-returns-2
 returns-2 c = c .refused2 .ensures ∙ lose-down _ _ (c .before .before .before .before .before .is-panel .ensures) (c .before .before .before .before .if1 .left) (c .before .before .is-down .ensures) (c .before .if2 .taken)
 
-one-more-down-requires : tie.Need-one-more-down-requires
-one-more-down-requires c κs = search needs
-
-refused-requires-3 : tie.Need-refused-requires-3
-refused-requires-3 c κs = search needs
-
 returns-3 : tie.Need-returns-3
 returns-3 c = c .refused3 .ensures ∙ lose-too-many _ _ (c .before .before .before .before .before .before .before .is-panel .ensures) (c .before .before .before .before .before .before .if1 .left) (c .before .before .before .before .is-down .ensures) (c .before .before .before .if2 .left) (c .before .before .one-more-down .ensures) (c .before .if3 .taken)
-
-with-down-requires : tie.Need-with-down-requires
-with-down-requires c κs = search needs
 
 returns-4 : tie.Need-returns-4
 returns-4 c = simp (c .with-down .ensures) (lose-more _ _ (c .before .before .before .before .before .before .before .is-panel .ensures) (c .before .before .before .before .before .before .if1 .left) (c .before .before .before .before .is-down .ensures) (c .before .before .before .if2 .left) (c .before .before .one-more-down .ensures) (c .before .if3 .left))
 
 pub lose-spec : {M : Type 1} → statement M
 lose-spec =
-    tie.close
-    (tie.spec
-    is-panel-requires
-    refused-requires
-    returns
-    is-down-requires
-    refused-requires-2
-    returns-2
-    one-more-down-requires
-    refused-requires-3
-    returns-3
-    with-down-requires
-    returns-4)
+    tie.close (tie.spec (λ c κs. search needs) (λ c κs. search needs) returns (λ c κs. search needs) (λ c κs. search needs) returns-2
+    (λ c κs. search needs) (λ c κs. search needs) returns-3 (λ c κs. search needs) returns-4)

@@ -4,18 +4,6 @@ use Rattle.refusals.proofs.is_idle.Statement.{statement}
 use Rattle.refusals.proofs.is_idle.Tie as tie
 use Rattle.refusals.specs.Refusals.{isIdle}
 
-enum-told : tie.Need-enum-told
-enum-told c = search needs
-
-enum-told-2 : tie.Need-enum-told-2
-enum-told-2 c = search needs
-
-enum-told-3 : tie.Need-enum-told-3
-enum-told-3 c = search needs
-
-enum-told-4 : tie.Need-enum-told-4
-enum-told-4 c = search needs
-
 returns : tie.Need-returns
 unfolding isIdle
 returns c = simp (c .enum-told .given .1)
@@ -34,5 +22,5 @@ returns-4 c = simp (c .enum-told4 .given .1)
 
 pub is-idle-spec : {M : Type 1} → statement M
 is-idle-spec =
-    tie.close
-    (tie.spec enum-told enum-told-2 enum-told-3 enum-told-4 returns returns-2 returns-3 returns-4)
+    tie.close (tie.spec (λ c. search needs) (λ c. search needs) (λ c. search needs) (λ c. search needs) returns returns-2 returns-3
+    returns-4)

@@ -2,26 +2,16 @@
 use borrow.Author.Needs.{needs}
 use mathlib.Core.Path.{sym, _∙_}
 use native.Mathlib.Omega.{arith}
-use Rattle.refusals.proofs.Refusing.{peer-place, more-first, proceed-given, proceed-0}
-use Rattle.refusals.proofs.refused_proceed_from.Statement.{statement}
+use Rattle.refusals.proofs.{Refusing.{peer-place, more-first, proceed-given, proceed-0}, refused_proceed_from.Statement.statement}
 use Rattle.refusals.proofs.refused_proceed_from.Tie as tie
 use Rattle.refusals.specs.Refusals.{proceedFromTrials}
-
-refused-peer-requires : tie.Need-refused-peer-requires
-refused-peer-requires c κs = search needs
 
 returns : tie.Need-returns
 unfolding proceedFromTrials
 returns c = more-first _ _ _ _ _ _ (c .before .refused-peer .ensures) (c .if1 .taken)
 
-wide-requires : tie.Need-wide-requires
-wide-requires c κs = search needs
-
 sub-i : tie.Need-sub-i
 sub-i c = let s = peer-place (c .before .before .before .args .t1) _ _ (sym (c .before .before .refused-peer .ensures) ∙ c .before .if1 .left) in omega (arith, s .2 .low, c .wide .ensures .0)
-
-wide-requires-2 : tie.Need-wide-requires-2
-wide-requires-2 c κs = search needs
 
 sub-k : tie.Need-sub-k
 sub-k c = let s = peer-place (c .before .before .before .before .args .t1) _ _ (sym (c .before .before .before .refused-peer .ensures) ∙ c .before .before .if1 .left) in omega (arith, s .0, c .wide2 .ensures .0)
@@ -40,15 +30,5 @@ returns-3 c = proceed-0 (c .before .before .before .before .before .args .t1) _ 
 
 pub refused-proceed-from-spec : {M : Type 1} → statement M
 refused-proceed-from-spec =
-    tie.close
-    (tie.spec
-    refused-peer-requires
-    returns
-    wide-requires
-    sub-i
-    wide-requires-2
-    sub-k
-    element-copy-out-if2
-    element-copy-out-if2-2
-    returns-2
-    returns-3)
+    tie.close (tie.spec (λ c κs. search needs) returns (λ c κs. search needs) sub-i (λ c κs. search needs) sub-k element-copy-out-if2
+    element-copy-out-if2-2 returns-2 returns-3)

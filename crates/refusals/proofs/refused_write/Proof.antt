@@ -1,7 +1,6 @@
 -- `refusals::refusals::refused_write` meets its contract. Assumes nothing.
 use Prim.Native.Nat.{ℕ, _≤_, _<_, _-_}
-use borrow.Author.Needs.{needs}
-use borrow.Author.Tests.{not-true, not-false, eq-eqb, ne-eqb}
+use borrow.Author.{Needs.needs, Tests.{not-true, not-false, eq-eqb, ne-eqb}}
 use mathlib.Core.Path.{subst, sym, _∙_}
 use native.Mathlib.Omega.{arith}
 use Rattle.form.specs.Form.{atWriter}
@@ -10,9 +9,6 @@ use Rattle.refusals.proofs.Refusing.{first-sized, write-first, write-6,
 use Rattle.refusals.proofs.refused_write.Statement.{statement}
 use Rattle.refusals.proofs.refused_write.Tie as tie
 
-refused-first-requires : tie.Need-refused-first-requires
-refused-first-requires c κs = search needs
-
 returns : tie.Need-returns
 returns c = write-first _ _ _ (c .before .refused-first .ensures) (c .if1 .taken)
 
@@ -20,15 +16,9 @@ returns-2 : tie.Need-returns-2
 unfolding atWriter
 returns-2 c = write-6 _ _ (sym (c .before .before .refused-first .ensures) ∙ c .before .if1 .left) (ne-eqb _ _ (c .if2 .taken))
 
-is-idle-requires : tie.Need-is-idle-requires
-is-idle-requires c κs = search needs
-
 returns-3 : tie.Need-returns-3
 unfolding atWriter
 returns-3 c = write-7 _ _ (sym (c .before .before .before .before .refused-first .ensures) ∙ c .before .before .before .if1 .left) (eq-eqb _ _ (c .before .before .if2 .left)) (sym (c .before .is-idle .ensures) ∙ not-true _ (c .if3 .taken))
-
-wide-requires : tie.Need-wide-requires
-wide-requires c κs = search needs
 
 sub-i : tie.Need-sub-i
 sub-i c = let s = first-sized (c .before .before .before .before .before .before .args .t1) _ (sym (c .before .before .before .before .before .refused-first .ensures) ∙ c .before .before .before .before .if1 .left) in omega (arith, s .low, c .wide .ensures .0)
@@ -46,15 +36,5 @@ returns-5 c = write-0 _ _ (sym (c .before .before .before .before .before .befor
 
 pub refused-write-spec : {M : Type 1} → statement M
 refused-write-spec =
-    tie.close
-    (tie.spec
-    refused-first-requires
-    returns
-    returns-2
-    is-idle-requires
-    returns-3
-    wide-requires
-    sub-i
-    element-copy-out-if4
-    returns-4
-    returns-5)
+    tie.close (tie.spec (λ c κs. search needs) returns returns-2 (λ c κs. search needs) returns-3 (λ c κs. search needs) sub-i
+    element-copy-out-if4 returns-4 returns-5)

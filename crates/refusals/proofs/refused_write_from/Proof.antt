@@ -7,15 +7,9 @@ use Rattle.refusals.proofs.refused_write_from.Statement.{statement}
 use Rattle.refusals.proofs.refused_write_from.Tie as tie
 use Rattle.refusals.specs.Refusals.{writeFromTrials}
 
-refused-peer-requires : tie.Need-refused-peer-requires
-refused-peer-requires c κs = search needs
-
 returns : tie.Need-returns
 unfolding writeFromTrials
 returns c = more-first _ _ _ _ _ _ (c .before .refused-peer .ensures) (c .if1 .taken)
-
-wide-requires : tie.Need-wide-requires
-wide-requires c κs = search needs
 
 sub-k : tie.Need-sub-k
 sub-k c = let s = peer-place (c .before .before .before .args .p) _ _ (sym (c .before .before .refused-peer .ensures) ∙ c .before .if1 .left) in omega (arith, s .0, c .wide .ensures .0)
@@ -31,5 +25,4 @@ returns-3 c = write-from-0 (c .before .before .before .before .before .args .p) 
 
 pub refused-write-from-spec : {M : Type 1} → statement M
 refused-write-from-spec =
-    tie.close
-    (tie.spec refused-peer-requires returns wide-requires sub-k stray-requires returns-2 returns-3)
+    tie.close (tie.spec (λ c κs. search needs) returns (λ c κs. search needs) sub-k stray-requires returns-2 returns-3)

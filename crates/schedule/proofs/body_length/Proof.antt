@@ -2,15 +2,8 @@
 use borrow.Author.Needs.{needs}
 use mathlib.Core.Path.{refl, sym}
 use native.Mathlib.Omega.{arith}
-use Rattle.schedule.proofs.Lengths.{length-few, length-past}
-use Rattle.schedule.proofs.body_length.Statement.{statement}
+use Rattle.schedule.proofs.{Lengths.{length-few, length-past}, body_length.Statement.statement}
 use Rattle.schedule.proofs.body_length.Tie as tie
-
-mul-result : tie.Need-mul-result
-mul-result c = search needs
-
-array-read-result : tie.Need-array-read-result
-array-read-result c = search needs
 
 returns : tie.Need-returns
 returns c = (refl, length-few (c .before .args .kind))
@@ -19,4 +12,4 @@ returns-2 : tie.Need-returns-2
 returns-2 c = (sym (length-past _ (c .if1 .left)), omega arith)
 
 pub body-length-spec : {M : Type 1} → statement M
-body-length-spec = tie.close (tie.spec mul-result array-read-result returns returns-2)
+body-length-spec = tie.close (tie.spec (λ c. search needs) (λ c. search needs) returns returns-2)

@@ -5,9 +5,6 @@ use Rattle.basics.proofs.Choices.{ite-true, ite-false}
 use Rattle.schedule.proofs.byte_if.Statement.{statement}
 use Rattle.schedule.proofs.byte_if.Tie as tie
 
-byte-at-requires : tie.Need-byte-at-requires
-byte-at-requires c κs = search needs
-
 returns : tie.Need-returns
 returns c = c .byte-at .ensures ∙ sym (ite-true _ _ (c .before .if1 .taken))
 
@@ -15,4 +12,4 @@ returns-2 : tie.Need-returns-2
 returns-2 c = sym (ite-false _ _ (c .if1 .left))
 
 pub byte-if-spec : {M : Type 1} → statement M
-byte-if-spec = tie.close (tie.spec byte-at-requires returns returns-2)
+byte-if-spec = tie.close (tie.spec (λ c κs. search needs) returns returns-2)

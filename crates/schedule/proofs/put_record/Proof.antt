@@ -1,33 +1,8 @@
 -- `schedule::put_record` meets its contract. Assumes nothing.
 use borrow.Author.Needs.{needs}
 use Rattle.codec.specs.Numbers.{Bytes}
-use Rattle.schedule.proofs.Cases.{bytes-laid}
-use Rattle.schedule.proofs.put_record.Statement.{statement}
+use Rattle.schedule.proofs.{Cases.bytes-laid, put_record.Statement.statement}
 use Rattle.schedule.proofs.put_record.Tie as tie
-
-singles-requires : tie.Need-singles-requires
-singles-requires c κs = search needs
-
-put-byte-requires : tie.Need-put-byte-requires
-put-byte-requires c κs = search needs
-
-put-byte-if-requires : tie.Need-put-byte-if-requires
-put-byte-if-requires c κs = search needs
-
-put-byte-if-requires-2 : tie.Need-put-byte-if-requires-2
-put-byte-if-requires-2 c κs = search needs
-
-put-byte-if-requires-3 : tie.Need-put-byte-if-requires-3
-put-byte-if-requires-3 c κs = search needs
-
-add-put-word-if : tie.Need-add-put-word-if
-add-put-word-if c = search needs
-
-put-word-if-requires : tie.Need-put-word-if-requires
-put-word-if-requires c κs = search needs
-
-same-length : tie.Need-same-length
-same-length c = search needs
 
 returns : tie.Need-returns
 unfolding Bytes
@@ -35,14 +10,5 @@ returns c = bytes-laid (c .before .before .before .before .before .before .befor
 
 pub put-record-spec : {M : Type 1} → statement M
 put-record-spec =
-    tie.close
-    (tie.spec
-    singles-requires
-    put-byte-requires
-    put-byte-if-requires
-    put-byte-if-requires-2
-    put-byte-if-requires-3
-    add-put-word-if
-    put-word-if-requires
-    same-length
-    returns)
+    tie.close (tie.spec (λ c κs. search needs) (λ c κs. search needs) (λ c κs. search needs) (λ c κs. search needs) (λ c κs. search needs)
+    (λ c. search needs) (λ c κs. search needs) (λ c. search needs) returns)

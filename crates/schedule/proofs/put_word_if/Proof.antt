@@ -4,12 +4,6 @@ use Rattle.basics.specs.Choice.{ite}
 use Rattle.schedule.proofs.put_word_if.Statement.{statement}
 use Rattle.schedule.proofs.put_word_if.Tie as tie
 
-put-word-requires : tie.Need-put-word-requires
-put-word-requires c κs = search needs
-
-same-length : tie.Need-same-length
-same-length c = search needs
-
 returns : tie.Need-returns
 unfolding ite
 returns c = simp (c .before .before .before .before .if1 .taken) (c .before .before .put-word .ensures)
@@ -19,4 +13,4 @@ unfolding ite
 returns-2 c = simp (c .if1 .left)
 
 pub put-word-if-spec : {M : Type 1} → statement M
-put-word-if-spec = tie.close (tie.spec put-word-requires same-length returns returns-2)
+put-word-if-spec = tie.close (tie.spec (λ c κs. search needs) (λ c. search needs) returns returns-2)

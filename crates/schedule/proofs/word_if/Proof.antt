@@ -5,9 +5,6 @@ use Rattle.basics.proofs.Choices.{ite-true, ite-false}
 use Rattle.schedule.proofs.word_if.Statement.{statement}
 use Rattle.schedule.proofs.word_if.Tie as tie
 
-word-at-requires : tie.Need-word-at-requires
-word-at-requires c κs = search needs
-
 returns : tie.Need-returns
 returns c = c .word-at .ensures ∙ sym (ite-true _ _ (c .before .if1 .taken))
 
@@ -15,4 +12,4 @@ returns-2 : tie.Need-returns-2
 returns-2 c = sym (ite-false _ _ (c .if1 .left))
 
 pub word-if-spec : {M : Type 1} → statement M
-word-if-spec = tie.close (tie.spec word-at-requires returns returns-2)
+word-if-spec = tie.close (tie.spec (λ c κs. search needs) returns returns-2)

@@ -2,13 +2,10 @@
 use Prim.Native.Nat.{_≤_, _-_}
 use borrow.Author.Needs.{needs}
 use lib.ListN.{drop}
-use mathlib.Core.Bool.{false}
-use mathlib.Core.List.{_++_, append-nil}
-use mathlib.Core.Path.{_≡_}
+use mathlib.Core.{Bool.false, List.{_++_, append-nil}, Path._≡_}
 use native.Mathlib.Omega.{arith}
 use Rattle.basics.specs.Below.{listBelow}
-use Rattle.tables.proofs.Filling.{filled-none, filled-next}
-use Rattle.tables.proofs.has_r.Statement.{statement}
+use Rattle.tables.proofs.{Filling.{filled-none, filled-next}, has_r.Statement.statement}
 use Rattle.tables.proofs.has_r.Tie as tie
 use Rattle.tables.specs.Marks.{hasR, among, marks}
 
@@ -18,26 +15,8 @@ Inv-loop n y rs end marked₀ j₀ marked j = (j ≤ 7) × (marked ≡ listBelow
 abbrev μ-loop : tie.MeasureT-loop
 μ-loop n y rs end marked₀ j₀ marked j = 7 - j
 
-wide-requires : tie.Need-wide-requires Inv-loop μ-loop
-wide-requires c κs = search needs
-
 loop-holds : tie.Need-loop-holds Inv-loop μ-loop
 loop-holds c = (search needs, filled-none _ _)
-
-element-copy-out-both : tie.Need-element-copy-out-both Inv-loop μ-loop
-element-copy-out-both c = search needs
-
-both-requires : tie.Need-both-requires Inv-loop μ-loop
-both-requires c κs = search needs
-
-array-write-marked : tie.Need-array-write-marked Inv-loop μ-loop
-array-write-marked c = search needs
-
-add-j : tie.Need-add-j Inv-loop μ-loop
-add-j c = search needs
-
-loop-less : tie.Need-loop-less Inv-loop μ-loop
-loop-less c = search needs
 
 loop-again : tie.Need-loop-again Inv-loop μ-loop
 unfolding among hasR
@@ -49,16 +28,5 @@ returns c = let e : c .before .loop .j ≡ 7 = omega arith in simp (c .before .l
 
 pub has-r-spec : {M : Type 1} → statement M
 has-r-spec =
-    tie.close
-    (tie.spec
-    Inv-loop
-    μ-loop
-    wide-requires
-    loop-holds
-    element-copy-out-both
-    both-requires
-    array-write-marked
-    add-j
-    loop-less
-    loop-again
-    returns)
+    tie.close (tie.spec Inv-loop μ-loop (λ c κs. search needs) loop-holds (λ c. search needs) (λ c κs. search needs) (λ c. search needs)
+    (λ c. search needs) (λ c. search needs) loop-again returns)

@@ -4,8 +4,7 @@ use borrow.Author.Needs.{needs}
 use mathlib.Core.Path.{_≡_, _∙_}
 use native.Mathlib.Omega.{arith}
 use Rattle.basics.specs.Below.{allBelow}
-use Rattle.tables.proofs.Turns.{history-start, history-next, history-end}
-use Rattle.tables.proofs.history_ok.Statement.{statement}
+use Rattle.tables.proofs.{Turns.{history-start, history-next, history-end}, history_ok.Statement.statement}
 use Rattle.tables.proofs.history_ok.Tie as tie
 use Rattle.tables.specs.Form.{unknownOk}
 
@@ -15,29 +14,8 @@ Inv-loop history high ok₀ k₀ ok k = (high < k) × (ok ≡ allBelow k (unknow
 abbrev μ-loop : tie.MeasureT-loop
 μ-loop history high ok₀ k₀ ok k = 201 - k
 
-wide-requires : tie.Need-wide-requires Inv-loop μ-loop
-wide-requires c κs = search needs
-
-add-k : tie.Need-add-k Inv-loop μ-loop
-add-k c = search needs
-
 loop-holds : tie.Need-loop-holds Inv-loop μ-loop
 loop-holds c = (omega (arith, c .wide .ensures), simp (c .wide .ensures .0, history-start))
-
-mul-z : tie.Need-mul-z Inv-loop μ-loop
-mul-z c = search needs
-
-array-read-z : tie.Need-array-read-z Inv-loop μ-loop
-array-read-z c = search needs
-
-both-requires : tie.Need-both-requires Inv-loop μ-loop
-both-requires c κs = search needs
-
-add-k-2 : tie.Need-add-k-2 Inv-loop μ-loop
-add-k-2 c = search needs
-
-loop-less : tie.Need-loop-less Inv-loop μ-loop
-loop-less c = search needs
 
 loop-again : tie.Need-loop-again Inv-loop μ-loop
 loop-again c = let i = c .before .before .loop .inv in (omega arith, simp (c .both .ensures, i .1) (history-next _ _ _ (i .0)))
@@ -47,17 +25,5 @@ returns c = let i = c .before .loop .inv in i .1 ∙ history-end _ _ (c .before 
 
 pub history-ok-spec : {M : Type 1} → statement M
 history-ok-spec =
-    tie.close
-    (tie.spec
-    Inv-loop
-    μ-loop
-    wide-requires
-    add-k
-    loop-holds
-    mul-z
-    array-read-z
-    both-requires
-    add-k-2
-    loop-less
-    loop-again
-    returns)
+    tie.close (tie.spec Inv-loop μ-loop (λ c κs. search needs) (λ c. search needs) loop-holds (λ c. search needs) (λ c. search needs)
+    (λ c κs. search needs) (λ c. search needs) (λ c. search needs) loop-again returns)

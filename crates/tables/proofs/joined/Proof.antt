@@ -1,6 +1,5 @@
 -- `tables::joined` meets its contract. Assumes nothing.
-use borrow.Author.Needs.{needs}
-use borrow.Author.Tests.{lt-ltb, le-ltb}
+use borrow.Author.{Needs.needs, Tests.{lt-ltb, le-ltb}}
 use mathlib.Core.Path.{sym}
 use Rattle.basics.proofs.Choices.{ite-true, ite-false}
 use Rattle.tables.proofs.joined.Statement.{statement}
@@ -10,18 +9,9 @@ use Rattle.tables.specs.Lines.{joined}
 returns : tie.Need-returns
 returns c = sym (ite-false _ _ (le-ltb _ _ (c .if1 .taken)))
 
-wide-requires : tie.Need-wide-requires
-wide-requires c κs = search needs
-
-element-set-from-x : tie.Need-element-set-from-x
-element-set-from-x c = search needs
-
-add-m : tie.Need-add-m
-add-m c = search needs
-
 returns-2 : tie.Need-returns-2
 unfolding joined
 returns-2 c = simp (c .wide .ensures .0) (sym (ite-true _ _ (lt-ltb _ _ (c .before .if1 .left))))
 
 pub joined-spec : {M : Type 1} → statement M
-joined-spec = tie.close (tie.spec returns wide-requires element-set-from-x add-m returns-2)
+joined-spec = tie.close (tie.spec returns (λ c κs. search needs) (λ c. search needs) (λ c. search needs) returns-2)

@@ -4,8 +4,7 @@ use borrow.Author.Needs.{needs}
 use lib.ListN.{length-map}
 use mathlib.Core.Path.{_≡_, sym, _∙_}
 use native.Mathlib.Omega.{arith}
-use Rattle.tables.proofs.Turns.{leaving-first, leaving-next, leaving-here, leaving-end, leaving-past}
-use Rattle.tables.proofs.leaving.Statement.{statement}
+use Rattle.tables.proofs.{Turns.{leaving-first, leaving-next, leaving-here, leaving-end, leaving-past}, leaving.Statement.statement}
 use Rattle.tables.proofs.leaving.Tie as tie
 use Rattle.tables.specs.Lines.{leading, leaving}
 
@@ -21,20 +20,11 @@ loop-holds c = (search needs, leaving-first _ _)
 returns : tie.Need-returns Inv-loop μ-loop
 returns c = sym (leaving-past _ _ (sym (length-map (c .before .before .before .args .t1 .sn) _) ∙ c .before .before .before .good .0 .1 .1 .1 .0 .1 .0 .1) _ (c .if1 .taken) (c .before .before .loop .inv .0)) ∙ c .before .before .loop .inv .1
 
-wide-requires : tie.Need-wide-requires Inv-loop μ-loop
-wide-requires c κs = search needs
-
 element-copy-out-if2 : tie.Need-element-copy-out-if2 Inv-loop μ-loop
 element-copy-out-if2 c = omega (arith, c .wide .ensures)
 
 returns-2 : tie.Need-returns-2 Inv-loop μ-loop
 returns-2 c = sym (leaving-here _ _ _ (c .before .before .before .before .loop-test .taken) (simp (c .before .before .wide .ensures .0) at (c .if2 .taken))) ∙ c .before .before .before .before .before .loop .inv .1
-
-add-m : tie.Need-add-m Inv-loop μ-loop
-add-m c = search needs
-
-loop-less : tie.Need-loop-less Inv-loop μ-loop
-loop-less c = search needs
 
 loop-again : tie.Need-loop-again Inv-loop μ-loop
 loop-again c = (omega arith, leaving-next _ _ _ (c .before .before .before .before .loop-test .taken) (simp (c .before .before .wide .ensures .0) at (c .if2 .left)) ∙ c .before .before .before .before .before .loop .inv .1)
@@ -44,16 +34,5 @@ returns-3 c = sym (leaving-end _ _ _ (c .loop-test .left)) ∙ c .before .loop .
 
 pub leaving-spec : {M : Type 1} → statement M
 leaving-spec =
-    tie.close
-    (tie.spec
-    Inv-loop
-    μ-loop
-    loop-holds
-    returns
-    wide-requires
-    element-copy-out-if2
-    returns-2
-    add-m
-    loop-less
-    loop-again
-    returns-3)
+    tie.close (tie.spec Inv-loop μ-loop loop-holds returns (λ c κs. search needs) element-copy-out-if2 returns-2 (λ c. search needs)
+    (λ c. search needs) loop-again returns-3)

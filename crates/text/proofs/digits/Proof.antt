@@ -3,8 +3,7 @@ use Prim.Native.Nat.{_+_}
 use lib.ListN.{length}
 use mathlib.Core.Path.{_≡_}
 use native.Mathlib.Omega.{arith}
-use Rattle.text.proofs.Decimal.{length-small, length-more, length-most}
-use Rattle.text.proofs.digits.Statement.{statement}
+use Rattle.text.proofs.{Decimal.{length-small, length-more, length-most}, digits.Statement.statement}
 use Rattle.text.proofs.digits.Tie as tie
 use Rattle.text.specs.Text.{dec}
 
@@ -30,5 +29,4 @@ returns : tie.Need-returns Inv-loop μ-loop
 returns c = omega (arith, length-small (c .before .loop .left) (omega arith))
 
 pub digits-spec : {M : Type 1} → statement M
-digits-spec =
-    tie.close (tie.spec Inv-loop μ-loop loop-holds add-count loop-less loop-again returns)
+digits-spec = tie.close (tie.spec Inv-loop μ-loop loop-holds add-count loop-less loop-again returns)

@@ -6,15 +6,9 @@ use Rattle.text.proofs.with_byte.Statement.{statement}
 use Rattle.text.proofs.with_byte.Tie as tie
 use Rattle.text.specs.Text.{appended}
 
-array-write-bytes : tie.Need-array-write-bytes
-array-write-bytes c = search needs
-
-add-t7 : tie.Need-add-t7
-add-t7 c = search needs
-
 returns : tie.Need-returns
 unfolding appended
 returns c = record { text = refl; most = le-refl _ }
 
 pub with-byte-spec : {M : Type 1} → statement M
-with-byte-spec = tie.close (tie.spec array-write-bytes add-t7 returns)
+with-byte-spec = tie.close (tie.spec (λ c. search needs) (λ c. search needs) returns)

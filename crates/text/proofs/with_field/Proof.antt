@@ -1,22 +1,14 @@
 -- `text::with_field` meets its contract. Assumes nothing.
 use Prim.Native.Nat.{ℕ}
 use borrow.Author.Needs.{needs}
-use mathlib.Core.List.{List, _∷_}
-use mathlib.Core.Path.{ap}
+use mathlib.Core.{List.{List, _∷_}, Path.ap}
 use native.Mathlib.Omega.{arith}
-use Rattle.text.proofs.Appending.{behind, named}
-use Rattle.text.proofs.Lines.{panel-shown, panel-none, byte-most, panel-most}
+use Rattle.text.proofs.{Appending.{behind, named}, Lines.{panel-shown, panel-none, byte-most, panel-most}}
 use Rattle.text.proofs.with_field.Statement.{statement}
 use Rattle.text.proofs.with_field.Tie as tie
 
-with-byte-requires : tie.Need-with-byte-requires
-with-byte-requires c κs = search needs
-
 with-number-requires : tie.Need-with-number-requires
 with-number-requires c κs = omega (arith, byte-most (c .before .before .args .n) (omega arith))
-
-with-byte-requires-2 : tie.Need-with-byte-requires-2
-with-byte-requires-2 c κs = search needs
 
 returns : tie.Need-returns
 returns c =
@@ -33,6 +25,4 @@ returns-2 c =
     named 4 text (omega (arith, most)) (behind (c .before .before .with-byte .ensures) (c .with-byte2 .ensures))
 
 pub with-field-spec : {M : Type 1} → statement M
-with-field-spec =
-    tie.close
-    (tie.spec with-byte-requires with-number-requires with-byte-requires-2 returns returns-2)
+with-field-spec = tie.close (tie.spec (λ c κs. search needs) with-number-requires (λ c κs. search needs) returns returns-2)

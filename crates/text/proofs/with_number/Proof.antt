@@ -1,12 +1,10 @@
 -- `text::with_number` meets its contract. Assumes nothing.
 use Prim.Native.Nat.{_+_, _/_, _<_}
 use borrow.Author.Needs.{needs}
-use lib.ListN.{length}
-use lib.Seq.{sets}
+use lib.{ListN.length, Seq.sets}
 use mathlib.Core.Path.{_≡_, refl, _∙_}
 use native.Mathlib.Omega.{arith}
-use Rattle.text.proofs.Appending.{appends, digit-first, number-laid}
-use Rattle.text.proofs.Decimal.{length-more, length-some, length-most}
+use Rattle.text.proofs.{Appending.{appends, digit-first, number-laid}, Decimal.{length-more, length-some, length-most}}
 use Rattle.text.proofs.with_number.Statement.{statement}
 use Rattle.text.proofs.with_number.Tie as tie
 use Rattle.text.specs.Text.{dec}
@@ -18,12 +16,6 @@ Inv-loop n start count bytes₀ left₀ at₀ bytes left at =
 abbrev μ-loop : tie.MeasureT-loop
 μ-loop n start count bytes₀ left₀ at₀ bytes left at = left
 
-digits-requires : tie.Need-digits-requires Inv-loop μ-loop
-digits-requires c κs = search needs
-
-add-at : tie.Need-add-at Inv-loop μ-loop
-add-at c = search needs
-
 sub-at : tie.Need-sub-at Inv-loop μ-loop
 sub-at c = omega (arith, c .before .digits .ensures, length-some (c .before .before .args .n))
 
@@ -32,15 +24,6 @@ loop-holds c =
     let some = length-some (c .before .before .args .n) in
     let count = c .before .digits .ensures in
     (omega (arith, count, some), omega (arith, count, some), refl)
-
-cast-bytes : tie.Need-cast-bytes Inv-loop μ-loop
-cast-bytes c = search needs
-
-add-bytes : tie.Need-add-bytes Inv-loop μ-loop
-add-bytes c = search needs
-
-array-write-bytes : tie.Need-array-write-bytes Inv-loop μ-loop
-array-write-bytes c = search needs
 
 sub-at-2 : tie.Need-sub-at-2 Inv-loop μ-loop
 sub-at-2 c = omega (arith, length-more (c .before .loop .left) (omega arith), length-some (c .before .loop .left / 10))
@@ -57,18 +40,6 @@ loop-again c =
       digit-first (c .before .loop .left) _ _ _ (c .loop-test .taken) (omega (arith, more)) ∙ c .before .loop .inv .2,
     )
 
-cast-bytes-2 : tie.Need-cast-bytes-2 Inv-loop μ-loop
-cast-bytes-2 c = search needs
-
-add-bytes-2 : tie.Need-add-bytes-2 Inv-loop μ-loop
-add-bytes-2 c = search needs
-
-array-write-bytes-2 : tie.Need-array-write-bytes-2 Inv-loop μ-loop
-array-write-bytes-2 c = search needs
-
-add-t8 : tie.Need-add-t8 Inv-loop μ-loop
-add-t8 c = search needs
-
 returns : tie.Need-returns Inv-loop μ-loop
 returns c =
     let a = c .before .before .before .before .args in
@@ -79,22 +50,6 @@ returns c =
 
 pub with-number-spec : {M : Type 1} → statement M
 with-number-spec =
-    tie.close
-    (tie.spec
-    Inv-loop
-    μ-loop
-    digits-requires
-    add-at
-    sub-at
-    loop-holds
-    cast-bytes
-    add-bytes
-    array-write-bytes
-    sub-at-2
-    loop-less
-    loop-again
-    cast-bytes-2
-    add-bytes-2
-    array-write-bytes-2
-    add-t8
+    tie.close (tie.spec Inv-loop μ-loop (λ c κs. search needs) (λ c. search needs) sub-at loop-holds (λ c. search needs) (λ c. search needs)
+    (λ c. search needs) sub-at-2 loop-less loop-again (λ c. search needs) (λ c. search needs) (λ c. search needs) (λ c. search needs)
     returns)

@@ -1,20 +1,11 @@
 -- `text::with_result` meets its contract. Assumes nothing.
 use Prim.Native.Nat.{ℕ}
 use borrow.Author.Needs.{needs}
-use mathlib.Core.List.{List, _∷_}
-use mathlib.Core.Path.{ap}
+use mathlib.Core.{List.{List, _∷_}, Path.ap}
 use native.Mathlib.Omega.{arith}
-use Rattle.text.proofs.Appending.{behind, named}
-use Rattle.text.proofs.Decimal.{length-most}
-use Rattle.text.proofs.Lines.{result-none, result-some, result-most}
+use Rattle.text.proofs.{Appending.{behind, named}, Decimal.length-most, Lines.{result-none, result-some, result-most}}
 use Rattle.text.proofs.with_result.Statement.{statement}
 use Rattle.text.proofs.with_result.Tie as tie
-
-with-byte-requires : tie.Need-with-byte-requires
-with-byte-requires c κs = search needs
-
-with-byte-requires-2 : tie.Need-with-byte-requires-2
-with-byte-requires-2 c κs = search needs
 
 returns : tie.Need-returns
 returns c =
@@ -22,9 +13,6 @@ returns c =
     let most = result-most (a .tag) (a .number) 10 (omega arith) (omega arith) in
     let text = ap (λ (x : List ℕ). 32 ∷ x) (result-none (a .tag) (a .number) (c .before .if1 .taken)) in
     named 12 text (omega (arith, most)) (behind (c .before .before .with-byte .ensures) (c .with-byte2 .ensures))
-
-with-byte-requires-3 : tie.Need-with-byte-requires-3
-with-byte-requires-3 c κs = search needs
 
 with-number-requires : tie.Need-with-number-requires
 with-number-requires c κs = omega (arith, length-most 10 (c .before .before .before .args .number) (omega arith) (omega arith))
@@ -39,11 +27,4 @@ returns-2 c =
 
 pub with-result-spec : {M : Type 1} → statement M
 with-result-spec =
-    tie.close
-    (tie.spec
-    with-byte-requires
-    with-byte-requires-2
-    returns
-    with-byte-requires-3
-    with-number-requires
-    returns-2)
+    tie.close (tie.spec (λ c κs. search needs) (λ c κs. search needs) returns (λ c κs. search needs) with-number-requires returns-2)

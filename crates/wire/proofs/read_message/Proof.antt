@@ -12,9 +12,6 @@ use Rattle.wire.specs.declared.Taken.the-variants as Read
 returns : tie.Need-returns
 returns c = sym (reading-none _ (c .if1 .taken))
 
-shared-slice-read-kind : tie.Need-shared-slice-read-kind
-shared-slice-read-kind c = search needs
-
 returns-2 : tie.Need-returns-2
 returns-2 c = sym (reading-unknown _ (omega arith) (c .if2 .taken))
 
@@ -24,20 +21,8 @@ returns-3 c = sym (reading-bare _ (omega arith) (c .if3 .taken) (c .before .if2 
 returns-4 : tie.Need-returns-4
 returns-4 c = sym (reading-cut _ (omega arith) (c .before .if3 .left) (c .if4 .taken))
 
-word-at-requires : tie.Need-word-at-requires
-word-at-requires c κs = search needs
-
 returns-5 : tie.Need-returns-5
 returns-5 c = ap (λ (v : ℕ). Read.Message (getD (c .before .before .before .before .before .before .before .args .bytes .now) 0 0) v 5) (c .word-at .ensures) ∙ sym (reading-valued _ (c .before .before .if3 .left) (c .before .if4 .left))
 
 pub read-message-spec : {M : Type 1} → statement M
-read-message-spec =
-    tie.close
-    (tie.spec
-    returns
-    shared-slice-read-kind
-    returns-2
-    returns-3
-    returns-4
-    word-at-requires
-    returns-5)
+read-message-spec = tie.close (tie.spec returns (λ c. search needs) returns-2 returns-3 returns-4 (λ c κs. search needs) returns-5)

@@ -1,7 +1,6 @@
 -- `wire::size_of` meets its contract. Assumes nothing.
 use mathlib.Core.Path.{sym}
-use Rattle.wire.proofs.Cases.{size-valued, size-bare}
-use Rattle.wire.proofs.size_of.Statement.{statement}
+use Rattle.wire.proofs.{Cases.{size-valued, size-bare}, size_of.Statement.statement}
 use Rattle.wire.proofs.size_of.Tie as tie
 
 returns : tie.Need-returns

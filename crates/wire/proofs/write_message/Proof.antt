@@ -7,9 +7,6 @@ use Rattle.wire.proofs.Cases.{written-bare, written-valued, size-valued
 use Rattle.wire.proofs.write_message.Statement.{statement}
 use Rattle.wire.proofs.write_message.Tie as tie
 
-size-of-requires : tie.Need-size-of-requires
-size-of-requires c κs = search needs
-
 returns : tie.Need-returns
 returns c = sym (writing-short _ _ _ (omega (arith, c .before .size-of .ensures)))
 
@@ -22,17 +19,11 @@ returns-3 c = sym (writing-refused _ _ _ (omega (arith, c .before .before .befor
 slice-write-area : tie.Need-slice-write-area
 slice-write-area c = omega (arith, c .before .before .before .before .size-of .ensures, size-bare _ (c .before .if3 .taken))
 
-same-length : tie.Need-same-length
-same-length c = search needs
-
 returns-4 : tie.Need-returns-4
 returns-4 c = written-bare _ _ _ _ (c .before .before .before .before .size-of .ensures) (c .before .before .before .if1 .left) (c .before .if3 .taken) (c .before .before .if2 .left) (c .if4 .left)
 
 slice-write-area-2 : tie.Need-slice-write-area-2
 slice-write-area-2 c = omega (arith, c .before .before .before .size-of .ensures, size-valued _ (c .if3 .left))
-
-put-word-requires : tie.Need-put-word-requires
-put-word-requires c κs = search needs
 
 same-length-2 : tie.Need-same-length-2
 same-length-2 c = c .before .before .put-word .kept .0 ∙ simp length-set
@@ -42,16 +33,5 @@ returns-5 c = written-valued _ _ _ _ _ (c .before .before .before .before .befor
 
 pub write-message-spec : {M : Type 1} → statement M
 write-message-spec =
-    tie.close
-    (tie.spec
-    size-of-requires
-    returns
-    returns-2
-    returns-3
-    slice-write-area
-    same-length
-    returns-4
-    slice-write-area-2
-    put-word-requires
-    same-length-2
-    returns-5)
+    tie.close (tie.spec (λ c κs. search needs) returns returns-2 returns-3 slice-write-area (λ c. search needs) returns-4 slice-write-area-2
+    (λ c κs. search needs) same-length-2 returns-5)

@@ -5,14 +5,8 @@ use Rattle.listing.specs.Listing.{Outcome}
 use Rattle.compared.proofs.listings.compared_listing.Statement.{statement}
 use Rattle.compared.proofs.listings.compared_listing.Tie as tie
 
-listing-requires : tie.Need-listing-requires
-listing-requires c κs = search needs
-
-same-length : tie.Need-same-length
-same-length c = search needs
-
 returns : tie.Need-returns
 returns c = (ap (λ (o : Outcome). o .answer .length) (c .before .before .listing .ensures .0), ap (λ (o : Outcome). o .area) (c .before .before .listing .ensures .0))
 
 pub compared-listing-spec : {M : Type 1} → statement M
-compared-listing-spec = tie.close (tie.spec listing-requires same-length returns)
+compared-listing-spec = tie.close (tie.spec (λ c κs. search needs) (λ c. search needs) returns)

@@ -1,25 +1,9 @@
 -- `compared::networks::compared_network_drain` meets its contract. Assumes nothing.
 use borrow.Author.Needs.{needs}
 use Rattle.carried.proofs.Rows.{laid-byte}
-use Rattle.compared.proofs.Stepping.{draining, network-then}
-use Rattle.compared.proofs.networks.compared_network_drain.Statement.{statement}
+use Rattle.compared.proofs.{Stepping.{draining, network-then}, networks.compared_network_drain.Statement.statement}
 use Rattle.compared.proofs.networks.compared_network_drain.Tie as tie
 use Rattle.compared.specs.Stepping.{drainedBytes}
-
-network-from-requires : tie.Need-network-from-requires
-network-from-requires c κs = search needs
-
-drain-requires : tie.Need-drain-requires
-drain-requires c κs = search needs
-
-network-into-requires : tie.Need-network-into-requires
-network-into-requires c κs = search needs
-
-put-byte-requires : tie.Need-put-byte-requires
-put-byte-requires c κs = search needs
-
-same-length : tie.Need-same-length
-same-length c = search needs
 
 returns : tie.Need-returns
 unfolding drainedBytes
@@ -27,11 +11,5 @@ returns c = draining _ _ _ _ _ (c .before .before .before .before .before .befor
 
 pub compared-network-drain-spec : {M : Type 1} → statement M
 compared-network-drain-spec =
-    tie.close
-    (tie.spec
-    network-from-requires
-    drain-requires
-    network-into-requires
-    put-byte-requires
-    same-length
+    tie.close (tie.spec (λ c κs. search needs) (λ c κs. search needs) (λ c κs. search needs) (λ c κs. search needs) (λ c. search needs)
     returns)

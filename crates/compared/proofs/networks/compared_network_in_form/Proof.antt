@@ -6,18 +6,8 @@ use Rattle.house.specs.NetForm.{netForm}
 use Rattle.compared.proofs.networks.compared_network_in_form.Statement.{statement}
 use Rattle.compared.proofs.networks.compared_network_in_form.Tie as tie
 
-network-from-requires : tie.Need-network-from-requires
-network-from-requires c κs = search needs
-
-in-form-requires : tie.Need-in-form-requires
-in-form-requires c κs = search needs
-
-byte-if-requires : tie.Need-byte-if-requires
-byte-if-requires c κs = search needs
-
 returns : tie.Need-returns
 returns c = c .byte-if .ensures ∙ ap oneIf (c .before .in-form .ensures ∙ ap netForm (c .before .before .network-from .ensures))
 
 pub compared-network-in-form-spec : {M : Type 1} → statement M
-compared-network-in-form-spec =
-    tie.close (tie.spec network-from-requires in-form-requires byte-if-requires returns)
+compared-network-in-form-spec = tie.close (tie.spec (λ c κs. search needs) (λ c κs. search needs) (λ c κs. search needs) returns)

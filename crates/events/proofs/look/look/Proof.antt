@@ -1,28 +1,9 @@
 -- `events::look::look` meets its contract. Assumes nothing.
 use borrow.Author.Needs.{needs}
 use mathlib.Core.Path.{sym, _∙_}
-use Rattle.events.proofs.Looking.{look-as, sn-low}
-use Rattle.events.proofs.look.look.Statement.{statement}
+use Rattle.events.proofs.{Looking.{look-as, sn-low}, look.look.Statement.statement}
 use Rattle.events.proofs.look.look.Tie as tie
 use Rattle.events.specs.Look.{lookAs}
-
-enum-told : tie.Need-enum-told
-enum-told c = search needs
-
-enum-told-2 : tie.Need-enum-told-2
-enum-told-2 c = search needs
-
-look-writing-requires : tie.Need-look-writing-requires
-look-writing-requires c κs = search needs
-
-enum-told-3 : tie.Need-enum-told-3
-enum-told-3 c = search needs
-
-look-first-requires : tie.Need-look-first-requires
-look-first-requires c κs = search needs
-
-enum-known-o : tie.Need-enum-known-o
-enum-known-o c = search needs
 
 look-second-requires : tie.Need-look-second-requires
 look-second-requires c κs = sn-low (c .before .before .before .args .p) _ (c .before .o .given .1) (c .before .before .before .pre .sn-top)
@@ -45,16 +26,5 @@ returns-4 c = c .look-second .ensures ∙ sym (look-as _ _ (c .before .before .o
 
 pub look-spec : {M : Type 1} → statement M
 look-spec =
-    tie.close
-    (tie.spec
-    enum-told
-    enum-told-2
-    look-writing-requires
-    enum-told-3
-    look-first-requires
-    enum-known-o
-    look-second-requires
-    returns
-    returns-2
-    returns-3
-    returns-4)
+    tie.close (tie.spec (λ c. search needs) (λ c. search needs) (λ c κs. search needs) (λ c. search needs) (λ c κs. search needs)
+    (λ c. search needs) look-second-requires returns returns-2 returns-3 returns-4)

@@ -1,27 +1,8 @@
 -- `events::look::look_first` meets its contract. Assumes nothing.
 use borrow.Author.Needs.{needs}
 use mathlib.Core.Path.{_∙_}
-use Rattle.events.proofs.Looking.{own-low, first-ends, first-goes-on}
-use Rattle.events.proofs.look.look_first.Statement.{statement}
+use Rattle.events.proofs.{Looking.{own-low, first-ends, first-goes-on}, look.look_first.Statement.statement}
 use Rattle.events.proofs.look.look_first.Tie as tie
-
-wide-requires : tie.Need-wide-requires
-wide-requires c κs = search needs
-
-sub-i : tie.Need-sub-i
-sub-i c = search needs
-
-array-copy-out-has-r : tie.Need-array-copy-out-has-r
-array-copy-out-has-r c = search needs
-
-has-r-requires : tie.Need-has-r-requires
-has-r-requires c κs = search needs
-
-enough-requires : tie.Need-enough-requires
-enough-requires c κs = search needs
-
-element-copy-out-look-second : tie.Need-element-copy-out-look-second
-element-copy-out-look-second c = search needs
 
 look-second-requires : tie.Need-look-second-requires
 look-second-requires c κs = own-low (c .before .before .before .before .before .before .before .args .t1) _ (c .before .before .before .before .before .before .wide .ensures .0) (c .before .before .before .before .before .before .before .pre .own-top)
@@ -34,14 +15,5 @@ returns-2 c = first-goes-on _ _ (c .before .before .before .before .before .wide
 
 pub look-first-spec : {M : Type 1} → statement M
 look-first-spec =
-    tie.close
-    (tie.spec
-    wide-requires
-    sub-i
-    array-copy-out-has-r
-    has-r-requires
-    enough-requires
-    element-copy-out-look-second
-    look-second-requires
-    returns
-    returns-2)
+    tie.close (tie.spec (λ c κs. search needs) (λ c. search needs) (λ c. search needs) (λ c κs. search needs) (λ c κs. search needs)
+    (λ c. search needs) look-second-requires returns returns-2)

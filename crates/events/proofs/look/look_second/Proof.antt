@@ -2,25 +2,9 @@
 use borrow.Author.Needs.{needs}
 use mathlib.Core.Path.{sym, _∙_}
 use Rattle.basics.proofs.Choices.{ite-true, ite-false}
-use Rattle.events.proofs.Looking.{enough-told}
-use Rattle.events.proofs.look.look_second.Statement.{statement}
+use Rattle.events.proofs.{Looking.enough-told, look.look_second.Statement.statement}
 use Rattle.events.proofs.look.look_second.Tie as tie
 use Rattle.events.specs.Look.{lookSecond}
-
-reaches-w-requires : tie.Need-reaches-w-requires
-reaches-w-requires c κs = search needs
-
-enough-requires : tie.Need-enough-requires
-enough-requires c κs = search needs
-
-with-operation-requires : tie.Need-with-operation-requires
-with-operation-requires c κs = search needs
-
-value-of-requires : tie.Need-value-of-requires
-value-of-requires c κs = search needs
-
-with-operation-requires-2 : tie.Need-with-operation-requires-2
-with-operation-requires-2 c κs = search needs
 
 returns : tie.Need-returns
 unfolding lookSecond
@@ -32,12 +16,5 @@ returns-2 c = simp (c .with-operation2 .ensures) (sym (ite-false _ _ (sym (enoug
 
 pub look-second-spec : {M : Type 1} → statement M
 look-second-spec =
-    tie.close
-    (tie.spec
-    reaches-w-requires
-    enough-requires
-    with-operation-requires
-    value-of-requires
-    with-operation-requires-2
-    returns
-    returns-2)
+    tie.close (tie.spec (λ c κs. search needs) (λ c κs. search needs) (λ c κs. search needs) (λ c κs. search needs) (λ c κs. search needs)
+    returns returns-2)

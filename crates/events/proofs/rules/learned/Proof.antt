@@ -8,29 +8,8 @@ use Rattle.events.proofs.rules.learned.Statement.{statement}
 use Rattle.events.proofs.rules.learned.Tie as tie
 use Rattle.events.specs.Rules.{learned}
 
-wide-requires : tie.Need-wide-requires
-wide-requires c κs = search needs
-
-sub-i : tie.Need-sub-i
-sub-i c = search needs
-
-element-copy-out-y : tie.Need-element-copy-out-y
-element-copy-out-y c = search needs
-
-wide-requires-2 : tie.Need-wide-requires-2
-wide-requires-2 c κs = search needs
-
-add-x : tie.Need-add-x
-add-x c = search needs
-
 add-t9 : tie.Need-add-t9
 add-t9 c = omega (arith, subst (λ (i : ℕ). wAt (c .before .before .args .t1 .w) (i - 1) < 200) (sym (c .before .wide .ensures .0)) (c .before .before .pre .1))
-
-element-set-from-q : tie.Need-element-set-from-q
-element-set-from-q c = search needs
-
-mul-q : tie.Need-mul-q
-mul-q c = search needs
 
 element-write-q : tie.Need-element-write-q
 element-write-q c = omega (arith, c .wide2 .ensures .0, subst (λ (i : ℕ). wAt (c .before .before .args .t1 .w) (i - 1) < 200) (sym (c .before .wide .ensures .0)) (c .before .before .pre .1))
@@ -41,15 +20,5 @@ returns c = simp (c .wide2 .ensures .0, c .before .wide .ensures .0)
 
 pub learned-spec : {M : Type 1} → statement M
 learned-spec =
-    tie.close
-    (tie.spec
-    wide-requires
-    sub-i
-    element-copy-out-y
-    wide-requires-2
-    add-x
-    add-t9
-    element-set-from-q
-    mul-q
-    element-write-q
-    returns)
+    tie.close (tie.spec (λ c κs. search needs) (λ c. search needs) (λ c. search needs) (λ c κs. search needs) (λ c. search needs) add-t9
+    (λ c. search needs) (λ c. search needs) element-write-q returns)

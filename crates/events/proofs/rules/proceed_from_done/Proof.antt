@@ -2,30 +2,15 @@
 use Prim.Native.Nat.{ℕ, _-_}
 use borrow.Author.Needs.{needs}
 use mathlib.Core.Path.{sym, ap, subst, _∙_}
-use Rattle.refusals.proofs.Passing.{may-proceed-from}
-use Rattle.refusals.specs.Refusals.Event.{proceedFrom}
-use Rattle.refusals.specs.Refusals.{refusal, trials}
-use Rattle.events.proofs.Happening.{happens-refused, happens-taken, comes}
-use Rattle.events.proofs.Running.{looks-proceed}
+use Rattle.refusals.{proofs.Passing.may-proceed-from, specs.Refusals.{refusal, trials}, specs.Refusals.Event.proceedFrom}
+use Rattle.events.proofs.{Happening.{happens-refused, happens-taken, comes}, Running.looks-proceed}
 use Rattle.events.proofs.rules.proceed_from_done.Statement.{statement}
 use Rattle.events.proofs.rules.proceed_from_done.Tie as tie
-use Rattle.events.specs.Asked.{Looks}
-use Rattle.events.specs.Events.{rule}
-use Rattle.events.specs.Rules.{proceedRule}
-use Rattle.events.specs.declared.Ruled.{Ruled}
-
-refused-proceed-from-requires : tie.Need-refused-proceed-from-requires
-refused-proceed-from-requires c κs = search needs
-
-refused-by-requires : tie.Need-refused-by-requires
-refused-by-requires c κs = search needs
+use Rattle.events.specs.{Asked.Looks, Events.rule, Rules.proceedRule, declared.Ruled.Ruled}
 
 returns : tie.Need-returns
 unfolding refusal trials
 returns c = c .refused-by .ensures ∙ happens-refused _ _ (proceedFrom (c .before .before .before .args .j)) _ (c .before .before .refused-proceed-from .ensures) (c .before .if1 .taken)
-
-wide-requires : tie.Need-wide-requires
-wide-requires c κs = search needs
 
 sub-proceed-rule : tie.Need-sub-proceed-rule
 sub-proceed-rule c = let m = comes (c .before .before .before .args .p) _ _ _ (c .wide .ensures .0) (may-proceed-from (c .before .before .before .args .p) (c .before .before .before .args .room) (c .before .before .before .args .j) (sym (c .before .before .refused-proceed-from .ensures) ∙ c .before .if1 .left) .0) in m .low
@@ -42,13 +27,5 @@ returns-2 c = c .looked-at .ensures ∙ happens-taken _ _ (proceedFrom (c .befor
 
 pub proceed-from-done-spec : {M : Type 1} → statement M
 proceed-from-done-spec =
-    tie.close
-    (tie.spec
-    refused-proceed-from-requires
-    refused-by-requires
-    returns
-    wide-requires
-    sub-proceed-rule
-    proceed-rule-requires
-    looked-at-requires
-    returns-2)
+    tie.close (tie.spec (λ c κs. search needs) (λ c κs. search needs) returns (λ c κs. search needs) sub-proceed-rule proceed-rule-requires
+    looked-at-requires returns-2)

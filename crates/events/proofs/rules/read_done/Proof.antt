@@ -2,22 +2,10 @@
 use borrow.Author.Needs.{needs}
 use mathlib.Core.Path.{sym, subst, _∙_}
 use Rattle.form.proofs.InForm.{form-view, sized}
-use Rattle.refusals.proofs.Passing.{may-read}
-use Rattle.refusals.specs.Refusals.Event.{read}
-use Rattle.refusals.specs.Refusals.{refusal, trials}
-use Rattle.events.proofs.Happening.{happens-refused, happens-taken}
-use Rattle.events.proofs.Running.{looks-read}
-use Rattle.events.proofs.rules.read_done.Statement.{statement}
+use Rattle.refusals.{proofs.Passing.may-read, specs.Refusals.{refusal, trials}, specs.Refusals.Event.read}
+use Rattle.events.proofs.{Happening.{happens-refused, happens-taken}, Running.looks-read, rules.read_done.Statement.statement}
 use Rattle.events.proofs.rules.read_done.Tie as tie
-use Rattle.events.specs.Asked.{Looks}
-use Rattle.events.specs.Events.{rule}
-use Rattle.events.specs.declared.Ruled.{Ruled}
-
-refused-read-requires : tie.Need-refused-read-requires
-refused-read-requires c κs = search needs
-
-refused-by-requires : tie.Need-refused-by-requires
-refused-by-requires c κs = search needs
+use Rattle.events.specs.{Asked.Looks, Events.rule, declared.Ruled.Ruled}
 
 returns : tie.Need-returns
 unfolding refusal trials
@@ -34,12 +22,4 @@ unfolding refusal trials rule
 returns-2 c = c .looked-at .ensures ∙ happens-taken _ _ read _ (c .before .before .before .refused-read .ensures) (c .before .before .if1 .left) _ (c .before .read-rule .ensures)
 
 pub read-done-spec : {M : Type 1} → statement M
-read-done-spec =
-    tie.close
-    (tie.spec
-    refused-read-requires
-    refused-by-requires
-    returns
-    read-rule-requires
-    looked-at-requires
-    returns-2)
+read-done-spec = tie.close (tie.spec (λ c κs. search needs) (λ c κs. search needs) returns read-rule-requires looked-at-requires returns-2)

@@ -2,33 +2,17 @@
 use Prim.Native.Nat.{ℕ, _-_, _<_}
 use borrow.Author.Needs.{needs}
 use mathlib.Core.Path.{sym, ap, subst, _∙_}
-use Rattle.form.proofs.InForm.{sized}
-use Rattle.form.specs.Setting.{ownW}
-use Rattle.refusals.proofs.Passing.{may-read-from, line-room}
-use Rattle.refusals.specs.Refusals.Event.{readFrom}
-use Rattle.refusals.specs.Refusals.{refusal, trials}
+use Rattle.form.{proofs.InForm.sized, specs.Setting.ownW}
+use Rattle.refusals.{proofs.Passing.{may-read-from, line-room}, specs.Refusals.{refusal, trials}, specs.Refusals.Event.readFrom}
 use Rattle.tables.specs.Places.{wAt, lineAt}
-use Rattle.events.proofs.Happening.{happens-refused, happens-taken, comes}
-use Rattle.events.proofs.Running.{looks-read-from}
+use Rattle.events.proofs.{Happening.{happens-refused, happens-taken, comes}, Running.looks-read-from}
 use Rattle.events.proofs.rules.read_from_done.Statement.{statement}
 use Rattle.events.proofs.rules.read_from_done.Tie as tie
-use Rattle.events.specs.Asked.{Looks}
-use Rattle.events.specs.Events.{rule}
-use Rattle.events.specs.Rules.{readFromRule}
-use Rattle.events.specs.declared.Ruled.{Ruled}
-
-refused-read-from-requires : tie.Need-refused-read-from-requires
-refused-read-from-requires c κs = search needs
-
-refused-by-requires : tie.Need-refused-by-requires
-refused-by-requires c κs = search needs
+use Rattle.events.specs.{Asked.Looks, Events.rule, Rules.readFromRule, declared.Ruled.Ruled}
 
 returns : tie.Need-returns
 unfolding refusal trials
 returns c = c .refused-by .ensures ∙ happens-refused _ _ (readFrom (c .before .before .before .args .j)) _ (c .before .before .refused-read-from .ensures) (c .before .if1 .taken)
-
-wide-requires : tie.Need-wide-requires
-wide-requires c κs = search needs
 
 sub-read-from-rule : tie.Need-sub-read-from-rule
 sub-read-from-rule c = let m = comes (c .before .before .before .args .p) _ _ _ (c .wide .ensures .0) (may-read-from (c .before .before .before .args .p) (c .before .before .before .args .room) (c .before .before .before .args .j) (sym (c .before .before .refused-read-from .ensures) ∙ c .before .if1 .left) .0) in m .low
@@ -45,13 +29,5 @@ returns-2 c = c .looked-at .ensures ∙ happens-taken _ _ (readFrom (c .before .
 
 pub read-from-done-spec : {M : Type 1} → statement M
 read-from-done-spec =
-    tie.close
-    (tie.spec
-    refused-read-from-requires
-    refused-by-requires
-    returns
-    wide-requires
-    sub-read-from-rule
-    read-from-rule-requires
-    looked-at-requires
-    returns-2)
+    tie.close (tie.spec (λ c κs. search needs) (λ c κs. search needs) returns (λ c κs. search needs) sub-read-from-rule
+    read-from-rule-requires looked-at-requires returns-2)

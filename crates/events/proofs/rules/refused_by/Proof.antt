@@ -4,12 +4,9 @@ use Rattle.events.proofs.rules.refused_by.Statement.{statement}
 use Rattle.events.proofs.rules.refused_by.Tie as tie
 use Rattle.events.specs.Events.{refusedBy}
 
-no-sends-requires : tie.Need-no-sends-requires
-no-sends-requires c κs = search needs
-
 returns : tie.Need-returns
 unfolding refusedBy
 returns c = simp (c .no-sends .ensures)
 
 pub refused-by-spec : {M : Type 1} → statement M
-refused-by-spec = tie.close (tie.spec no-sends-requires returns)
+refused-by-spec = tie.close (tie.spec (λ c κs. search needs) returns)

@@ -3,11 +3,8 @@ use borrow.Author.Needs.{needs}
 use Rattle.events.proofs.rules.sends_own.Statement.{statement}
 use Rattle.events.proofs.rules.sends_own.Tie as tie
 
-no-cast-requires : tie.Need-no-cast-requires
-no-cast-requires c κs = search needs
-
 returns : tie.Need-returns
 returns c = simp (c .no-cast .ensures)
 
 pub sends-own-spec : {M : Type 1} → statement M
-sends-own-spec = tie.close (tie.spec no-cast-requires returns)
+sends-own-spec = tie.close (tie.spec (λ c κs. search needs) returns)

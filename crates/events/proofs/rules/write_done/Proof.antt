@@ -2,22 +2,10 @@
 use borrow.Author.Needs.{needs}
 use mathlib.Core.Path.{sym, subst, _∙_}
 use Rattle.form.proofs.InForm.{form-view, sized}
-use Rattle.refusals.proofs.Passing.{may-write}
-use Rattle.refusals.specs.Refusals.Event.{write}
-use Rattle.refusals.specs.Refusals.{refusal, trials}
-use Rattle.events.proofs.Happening.{happens-refused, happens-taken}
-use Rattle.events.proofs.Running.{looks-write}
-use Rattle.events.proofs.rules.write_done.Statement.{statement}
+use Rattle.refusals.{proofs.Passing.may-write, specs.Refusals.{refusal, trials}, specs.Refusals.Event.write}
+use Rattle.events.proofs.{Happening.{happens-refused, happens-taken}, Running.looks-write, rules.write_done.Statement.statement}
 use Rattle.events.proofs.rules.write_done.Tie as tie
-use Rattle.events.specs.Asked.{Looks}
-use Rattle.events.specs.Events.{rule}
-use Rattle.events.specs.declared.Ruled.{Ruled}
-
-refused-write-requires : tie.Need-refused-write-requires
-refused-write-requires c κs = search needs
-
-refused-by-requires : tie.Need-refused-by-requires
-refused-by-requires c κs = search needs
+use Rattle.events.specs.{Asked.Looks, Events.rule, declared.Ruled.Ruled}
 
 returns : tie.Need-returns
 unfolding refusal trials
@@ -35,11 +23,4 @@ returns-2 c = c .looked-at .ensures ∙ happens-taken _ _ (write (c .before .bef
 
 pub write-done-spec : {M : Type 1} → statement M
 write-done-spec =
-    tie.close
-    (tie.spec
-    refused-write-requires
-    refused-by-requires
-    returns
-    write-rule-requires
-    looked-at-requires
-    returns-2)
+    tie.close (tie.spec (λ c κs. search needs) (λ c κs. search needs) returns write-rule-requires looked-at-requires returns-2)

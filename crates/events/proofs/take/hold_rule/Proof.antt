@@ -4,15 +4,9 @@ use Rattle.events.proofs.take.hold_rule.Statement.{statement}
 use Rattle.events.proofs.take.hold_rule.Tie as tie
 use Rattle.events.specs.Rules.{holdRule}
 
-with-hold-requires : tie.Need-with-hold-requires
-with-hold-requires c κs = search needs
-
-sends-proceeds-requires : tie.Need-sends-proceeds-requires
-sends-proceeds-requires c κs = search needs
-
 returns : tie.Need-returns
 unfolding holdRule
 returns c = simp (c .sends-proceeds .ensures, c .before .with-hold .ensures)
 
 pub hold-rule-spec : {M : Type 1} → statement M
-hold-rule-spec = tie.close (tie.spec with-hold-requires sends-proceeds-requires returns)
+hold-rule-spec = tie.close (tie.spec (λ c κs. search needs) (λ c κs. search needs) returns)

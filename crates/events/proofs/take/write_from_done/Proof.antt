@@ -2,35 +2,18 @@
 use borrow.Author.Needs.{needs}
 use lib.ListN.{length-map}
 use mathlib.Core.Path.{sym, subst, _∙_}
-use Rattle.refusals.proofs.Passing.{may-write-from}
-use Rattle.refusals.specs.Refusals.Event.{writeFrom}
-use Rattle.refusals.specs.Refusals.{refusal, trials}
-use Rattle.events.proofs.Coming.{takes-all, looks-taken, rule-takes, rule-holds}
-use Rattle.events.proofs.Happening.{happens-refused, happens-taken, comes}
-use Rattle.events.proofs.Running.{looks-hold}
-use Rattle.events.proofs.take.write_from_done.Statement.{statement}
+use Rattle.refusals.{proofs.Passing.may-write-from, specs.Refusals.{refusal, trials}, specs.Refusals.Event.writeFrom}
+use Rattle.events.proofs.{Coming.{takes-all, looks-taken, rule-takes, rule-holds}, Happening.{happens-refused, happens-taken, comes}}
+use Rattle.events.proofs.{Running.looks-hold, take.write_from_done.Statement.statement}
 use Rattle.events.proofs.take.write_from_done.Tie as tie
-use Rattle.events.specs.Asked.{Looks}
-use Rattle.events.specs.declared.Ruled.{Ruled}
-
-refused-write-from-requires : tie.Need-refused-write-from-requires
-refused-write-from-requires c κs = search needs
-
-refused-by-requires : tie.Need-refused-by-requires
-refused-by-requires c κs = search needs
+use Rattle.events.specs.{Asked.Looks, declared.Ruled.Ruled}
 
 returns : tie.Need-returns
 unfolding refusal trials
 returns c = c .refused-by .ensures ∙ happens-refused _ _ (writeFrom (c .before .before .before .args .j) (c .before .before .before .args .bit) (c .before .before .before .args .v)) _ (c .before .before .refused-write-from .ensures) (c .before .if1 .taken)
 
-wide-requires : tie.Need-wide-requires
-wide-requires c κs = search needs
-
 sub-k : tie.Need-sub-k
 sub-k c = let a = may-write-from (c .before .before .before .args .p) (c .before .before .before .args .room) (c .before .before .before .args .j) (c .before .before .before .args .bit) (sym (c .before .before .refused-write-from .ensures) ∙ c .before .if1 .left) in comes (c .before .before .before .args .p) _ _ _ (c .wide .ensures .0) (a .0) .low
-
-right-bit-requires : tie.Need-right-bit-requires
-right-bit-requires c κs = search needs
 
 take-rule-requires : tie.Need-take-rule-requires
 take-rule-requires c κs = let a = may-write-from (c .before .before .before .before .before .args .p) (c .before .before .before .before .before .args .room) (c .before .before .before .before .before .args .j) (c .before .before .before .before .before .args .bit) (sym (c .before .before .before .before .refused-write-from .ensures) ∙ c .before .before .before .if1 .left) in takes-all (c .before .before .before .before .before .args .p) _ _ _ (c .before .before .before .before .before .args .bit) (c .before .before .wide .ensures .0) (a .0) (a .1) (sym (c .before .right-bit .ensures) ∙ c .if2 .taken)
@@ -54,17 +37,5 @@ returns-3 c = c .looked-at2 .ensures ∙ happens-taken _ _ (writeFrom (c .before
 
 pub write-from-done-spec : {M : Type 1} → statement M
 write-from-done-spec =
-    tie.close
-    (tie.spec
-    refused-write-from-requires
-    refused-by-requires
-    returns
-    wide-requires
-    sub-k
-    right-bit-requires
-    take-rule-requires
-    looked-at-requires
-    returns-2
-    hold-rule-requires
-    looked-at-requires-2
-    returns-3)
+    tie.close (tie.spec (λ c κs. search needs) (λ c κs. search needs) returns (λ c κs. search needs) sub-k (λ c κs. search needs)
+    take-rule-requires looked-at-requires returns-2 hold-rule-requires looked-at-requires-2 returns-3)

@@ -3,11 +3,8 @@ use borrow.Author.Needs.{needs}
 use Rattle.listing.proofs.records.no_more.Statement.{statement}
 use Rattle.listing.proofs.records.no_more.Tie as tie
 
-no-line-requires : tie.Need-no-line-requires
-no-line-requires c κs = search needs
-
 returns : tie.Need-returns
 returns c = simp (c .no-line .ensures)
 
 pub no-more-spec : {M : Type 1} → statement M
-no-more-spec = tie.close (tie.spec no-line-requires returns)
+no-more-spec = tie.close (tie.spec (λ c κs. search needs) returns)

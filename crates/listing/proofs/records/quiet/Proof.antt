@@ -3,11 +3,8 @@ use borrow.Author.Needs.{needs}
 use Rattle.listing.proofs.records.quiet.Statement.{statement}
 use Rattle.listing.proofs.records.quiet.Tie as tie
 
-the-drain-requires : tie.Need-the-drain-requires
-the-drain-requires c κs = search needs
-
 returns : tie.Need-returns
 returns c = simp (c .the-drain .ensures)
 
 pub quiet-spec : {M : Type 1} → statement M
-quiet-spec = tie.close (tie.spec the-drain-requires returns)
+quiet-spec = tie.close (tie.spec (λ c κs. search needs) returns)

@@ -1,18 +1,11 @@
 -- `panel::Panel::after_write_from` meets its contract. Assumes nothing.
 use borrow.Author.Needs.{needs}
 use Rattle.refusals.specs.Refusals.Event.{writeFrom}
-use Rattle.panel.proofs.Calling.{after-as}
-use Rattle.panel.proofs.Panel.after_write_from.Statement.{statement}
+use Rattle.panel.proofs.{Calling.after-as, Panel.after_write_from.Statement.statement}
 use Rattle.panel.proofs.Panel.after_write_from.Tie as tie
-
-write-from-done-requires : tie.Need-write-from-done-requires
-write-from-done-requires c κs = search needs
-
-next-of-requires : tie.Need-next-of-requires
-next-of-requires c κs = search needs
 
 returns : tie.Need-returns
 returns c = after-as _ (writeFrom (c .before .before .before .args .j) (c .before .before .before .args .bit) (c .before .before .before .args .v)) _ _ (c .before .write-from-done .ensures) (c .next-of .ensures)
 
 pub after-write-from-spec : {M : Type 1} → statement M
-after-write-from-spec = tie.close (tie.spec write-from-done-requires next-of-requires returns)
+after-write-from-spec = tie.close (tie.spec (λ c κs. search needs) (λ c κs. search needs) returns)

@@ -2,32 +2,15 @@
 use borrow.Author.Needs.{needs}
 use Prim.Native.Nat.{ℕ, _<_, _^_}
 use lib.ListN.{length}
-use mathlib.Core.List.{List}
-use mathlib.Core.Path.{ap, _∙_}
+use mathlib.Core.{List.List, Path.{ap, _∙_}}
 use native.Mathlib.Omega.{arith}
 use Rattle.basics.proofs.Lists.{part-behind}
 use Rattle.wire.specs.Messages.{reading}
-use Rattle.reader.proofs.MessageSteps.{step-below, step-is, step-past}
-use Rattle.reader.proofs.wire_messages.step_at.Statement.{statement}
+use Rattle.reader.proofs.{MessageSteps.{step-below, step-is, step-past}, wire_messages.step_at.Statement.statement}
 use Rattle.reader.proofs.wire_messages.step_at.Tie as tie
 
 returns : tie.Need-returns
 returns c = step-past _ _ (c .if1 .taken)
-
-sub-read-message : tie.Need-sub-read-message
-sub-read-message c = search needs
-
-part-read-message-start : tie.Need-part-read-message-start
-part-read-message-start c = search needs
-
-part-read-message-end : tie.Need-part-read-message-end
-part-read-message-end c = search needs
-
-read-message-requires : tie.Need-read-message-requires
-read-message-requires c κs = search needs
-
-used-of-requires : tie.Need-used-of-requires
-used-of-requires c κs = search needs
 
 add-t5 : tie.Need-add-t5
 add-t5 c =
@@ -42,13 +25,5 @@ returns-2 c = step-is _ _ (c .before .read-message .ensures ∙ ap reading (part
 
 pub step-at-spec : {M : Type 1} → statement M
 step-at-spec =
-    tie.close
-    (tie.spec
-    returns
-    sub-read-message
-    part-read-message-start
-    part-read-message-end
-    read-message-requires
-    used-of-requires
-    add-t5
-    returns-2)
+    tie.close (tie.spec returns (λ c. search needs) (λ c. search needs) (λ c. search needs) (λ c κs. search needs) (λ c κs. search needs)
+    add-t5 returns-2)

@@ -5,12 +5,6 @@ use Rattle.reader.specs.Messages.{usedOf}
 use Rattle.reader.proofs.wire_messages.used_of.Statement.{statement}
 use Rattle.reader.proofs.wire_messages.used_of.Tie as tie
 
-enum-known-t : tie.Need-enum-known-t
-enum-known-t c = search needs
-
-enum-told : tie.Need-enum-told
-enum-told c = search needs
-
 returns : tie.Need-returns
 unfolding usedOf
 returns c = ap usedOf (sym (c .before .t .given .1))
@@ -20,4 +14,4 @@ unfolding usedOf
 returns-2 c = ap usedOf (sym (c .enum-told .given .1))
 
 pub used-of-spec : {M : Type 1} → statement M
-used-of-spec = tie.close (tie.spec enum-known-t enum-told returns returns-2)
+used-of-spec = tie.close (tie.spec (λ c. search needs) (λ c. search needs) returns returns-2)
