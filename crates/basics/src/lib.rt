@@ -1,4 +1,6 @@
 // What every crate above shares: definitions in specs/, their laws in proofs/, and these functions of one line.
+#![tactic(auto)]
+
 ghost use Rattle.std.specs.Prelude.{◌≡◌, min, ◌≤◌, ◌<◌};
 ghost use Rattle.basics.specs.Choice.{ite, both};
 ghost use Rattle.basics.specs.Below.{one_if};

@@ -1,5 +1,6 @@
 // The bench: a schedule on standard input, its listing on standard output. What could not be read or written is said on
 // standard error.
+#![tactic(auto)]
 ghost use Rattle.std.specs.Prelude.{◌≡◌, length, take};
 ghost use Rattle.io.specs.Counts.{IsPrefixLen};
 ghost use Rattle.listing.specs.Listing.{listing_of};

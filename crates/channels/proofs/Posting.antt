@@ -7,7 +7,7 @@ use borrow.Author.Tests.{leb-true, le-leb}
 use Rattle.basics.proofs.Choices.{clash, ite-true, ite-false, ite-case, both_left, both_right, both_true, both-false-left, both-false-right}
 use Rattle.basics.specs.Choice.{both}
 use Rattle.messages.specs.Sends.{Message}
-use Rattle.channels.specs.{Channels.{channel_at, room, joined}, Posting.{posted, fits_in_lem, post, posts, with_channel}}
+use Rattle.channels.specs.{Channels.{channel_at, room, joined}, Posting.{posted, fits_in, post, posts, with_channel}}
 use Rattle.channels.specs.declared.{Posted.Posted, Row.Row}
 
 -- ---- one message
@@ -22,25 +22,25 @@ module _ (s : Posted) (m : Message) where
   unfolding post
   post-late e = ite-false _ _ e
 
-  pub post-refused : s.fits ≡ true → fits_in_lem s.row m ≡ false → post s m ≡ posted false s.row
+  pub post-refused : s.fits ≡ true → fits_in s.row m ≡ false → post s m ≡ posted false s.row
   unfolding post
   post-refused e f = ite-true _ _ e ∙ ite-false _ _ f
 
-  pub post-taken : s.fits ≡ true → fits_in_lem s.row m ≡ true → post s m ≡ posted true (after s.row m)
+  pub post-taken : s.fits ≡ true → fits_in s.row m ≡ true → post s m ≡ posted true (after s.row m)
   unfolding post
   post-taken e f = ite-true _ _ e ∙ ite-true _ _ f
 
 module _ (r : Row) (m : Message) where
-  pub outside : both (leb 1 m.to) (leb m.to 7) ≡ false → fits_in_lem r m ≡ false
-  unfolding fits_in_lem
+  pub outside : both (leb 1 m.to) (leb m.to 7) ≡ false → fits_in r m ≡ false
+  unfolding fits_in
   outside e = both-false-left _ e
 
-  pub no_room : room (channel_at r (m.to - 1)) m.kind ≡ false → fits_in_lem r m ≡ false
-  unfolding fits_in_lem
+  pub no_room : room (channel_at r (m.to - 1)) m.kind ≡ false → fits_in r m ≡ false
+  unfolding fits_in
   no_room e = both-false-right _ e
 
-  pub fits_in_lem : both (leb 1 m.to) (leb m.to 7) ≡ true → room (channel_at r (m.to - 1)) m.kind ≡ true → fits_in_lem r m ≡ true
-  unfolding fits_in_lem
+  pub fits_in_lem : both (leb 1 m.to) (leb m.to 7) ≡ true → room (channel_at r (m.to - 1)) m.kind ≡ true → fits_in r m ≡ true
+  unfolding fits_in
   fits_in_lem e f = both_true e f
 
 pub record Fits (r : Row) (m : Message) : Type 0 where
@@ -48,8 +48,8 @@ pub record Fits (r : Row) (m : Message) : Type 0 where
   pub high : m.to ≤ 7
   pub space : room (channel_at r (m.to - 1)) m.kind ≡ true
 
-pub fits_in-iff : (r : Row) (m : Message) → (fits_in_lem r m ≡ true) ↔ Fits r m
-unfolding fits_in_lem
+pub fits_in-iff : (r : Row) (m : Message) → (fits_in r m ≡ true) ↔ Fits r m
+unfolding fits_in
 fits_in-iff r m = (
   λ e. record {
     low = leb-true _ _ (both_left _ _ (both_left _ _ e));
@@ -63,7 +63,7 @@ fits_in-iff r m = (
 pub post-case : (P : Row → Type 0) (s : Posted) (m : Message) → P s.row → (Fits s.row m → P (after s.row m)) → P (post s m).row
 unfolding post
 post-case P s m before then =
-    ite-case As s.fits _ _ (λ _. ite-case As (fits_in_lem s.row m) _ _ (λ e. then ((fits_in-iff s.row m).0 e)) (λ _. before)) (λ _. before)
+    ite-case As s.fits _ _ (λ _. ite-case As (fits_in s.row m) _ _ (λ e. then ((fits_in-iff s.row m).0 e)) (λ _. before)) (λ _. before)
   where
     As : Posted → Type 0
     As t = P t.row
@@ -101,9 +101,9 @@ posts-next r m ms f = ap (λ (s : Posted). posts s ms) (post-taken (posted true 
 
 pub first-of : (r : Row) (m : Message) (ms : List Message) → (posts (posted true r) (m ∷ ms)).fits ≡ true → First r m ms
 unfolding posts
-first-of r m ms h = by (fits_in_lem r m) refl
+first-of r m ms h = by (fits_in r m) refl
   where
-    by : (b : Bool) → fits_in_lem r m ≡ b → First r m ms
+    by : (b : Bool) → fits_in r m ≡ b → First r m ms
     by true e =
         let f : Fits r m = (fits_in-iff r m).0 e in
         record { fit = f; next = posts-next r m ms f; rest = sym (ap (λ (s : Posted). s.fits) (posts-next r m ms f)) ∙ h }

@@ -114,12 +114,12 @@ first-value r m ms whole h w =
 
 -- and where one is sent, it is there with its value
 pub posts-value :
-    (r : Row) {ms : List Message} (m : Message) → length r.to ≡ 7 → (posts (posted true r) ms).fits ≡ true → Memᴰ m ms → m.kind < 2 →
+    (m : Message) (r : Row) {ms : List Message} → length r.to ≡ 7 → (posts (posted true r) ms).fits ≡ true → Memᴰ m ms → m.kind < 2 →
     value_in (channel_at (posts (posted true r) ms).row (m.to - 1)) m.kind ≡ m.value
-posts-value r m whole h (Memᴰ.head {x = x} {xs = ms} e) w =
+posts-value m r whole h (Memᴰ.head {x = x} {xs = ms} e) w =
     subst (λ (y : Message). y.kind < 2 → value_in (channel_at (posts (posted true r) (x ∷ ms)).row (y.to - 1)) y.kind ≡ y.value) (sym e)
     (first-value r x ms whole h) w
-posts-value r m whole h (Memᴰ.tail {x = x} {xs = ms} t) w =
+posts-value m r whole h (Memᴰ.tail {x = x} {xs = ms} t) w =
     let o : First r x ms = first-of r x ms h in
     ap (λ (s : Posted). value_in (channel_at s.row (m.to - 1)) m.kind) o.next
-    ∙ posts-value (after r x) m (length-put r _ _ ∙ whole) o.rest t w
+    ∙ posts-value m (after r x) (length-put r _ _ ∙ whole) o.rest t w

@@ -1,4 +1,6 @@
 // The channels that leave one panel, and how what an event sends joins them. Every call here takes any channels and any numbers.
+#![tactic(auto)]
+
 ghost use Rattle.std.specs.Prelude.{◌≡◌, [], ◌∷◌, ◌-◌, ◌<◌};
 ghost use Rattle.basics.specs.Choice.{ite};
 ghost use Rattle.messages.specs.Sends.{cast_of, proceeds_to};
@@ -10,7 +12,7 @@ use messages::{Cast, Sends};
 use tables::Hold;
 
 // One ordered pair's channel: a WRITE of each bit or none, and how many READs and PROCEEDs are in flight.
-#[derive(Drop)]
+#[derive(Clone, Copy)]
 pub struct Channel {
     pub write0: Hold,
     pub write1: Hold,
@@ -19,13 +21,13 @@ pub struct Channel {
 }
 
 // The channels that leave one panel; place 0 is panel 1.
-#[derive(Drop)]
+#[derive(Clone, Copy)]
 pub struct Row {
     pub to: [Channel; 7],
 }
 
 // A row, and whether all messages so far found room.
-#[derive(Drop)]
+#[derive(Clone, Copy)]
 pub struct Posted {
     pub fits: bool,
     pub row: Row,

@@ -21,7 +21,7 @@ unfoldable pub head_answer : List Line → ℕ
 head_answer [] = 0
 head_answer (l ∷ ls) = l.answer
 
--- the call that a record after the setting_up is, a drain excepted
+-- the call that a record after the set-up is, a drain excepted
 unfoldable pub call_of : Network → Record → Call
 call_of s r =
     ite (eqb r.kind 1) (Call.write s r.value)
@@ -84,7 +84,7 @@ first-answer q qs h =
 pub first-record-in-order : (q : Read) (qs : List Read) → ReadOr q → First (first_record_trials q) (head_answer (all (q ∷ qs)))
 first-record-in-order q qs h = subst (First (first_record_trials q)) (sym (first-answer q qs h)) (first-of (first_record_trials q))
 
--- ---- after the setting_up
+-- ---- after the set-up
 
 pick :
     (b : Bool) (x y : Stepped) (c d : Call) → code_of x.answer ≡ answer_of c → code_of y.answer ≡ answer_of d →

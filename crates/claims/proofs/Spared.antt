@@ -104,7 +104,7 @@ noted-spared s h (waiting i j ∷ ns) = ap (λ (xs : List (List ℕ)). waiting_a
 noted-spared s h (doing i ∷ ns) = ap (λ (xs : List (List ℕ)). doing_at s i ∷ xs) (noted-spared s h ns)
 noted-spared s h (lines m ∷ ns) = ap (λ (xs : List (List ℕ)). drain_lines m s ++ xs) (noted-spared s h ns)
 
--- ---- cases: a network that setting_up takes is spared the test
+-- ---- cases: a network that set-up takes is spared the test
 
 unfoldable pub spared_of : Case → List (List ℕ)
 spared_of (setting_up n t writer) = values_of (setting_up n t writer)

@@ -1,4 +1,4 @@
--- Cases: a setting_up, an event at a lone panel, or a run of a fresh network of which something is noted on the way; and their values, the
+-- Cases: a set-up, an event at a lone panel, or a run of a fresh network of which something is noted on the way; and their values, the
 -- definitions' own. The initial value is 700.
 -- Assumes nothing.
 use Rattle.std.specs.Prelude.{ℕ, List, [], ◌∷◌, ◌++◌}

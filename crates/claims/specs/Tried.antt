@@ -25,11 +25,11 @@ use Rattle.steps.specs.Steps.{write_trials, read_trials, deliver_trials, lose_tr
 use Rattle.listing.specs.Listing.{longest, listing}
 
 pub data Call : Type 0 where
-  -- a panel: setting_up with n, t, writer, number and initial value; an event, with a lent message area and without
+  -- a panel: set-up with n, t, writer, number and initial value; an event, with a lent message area and without
   set_up_panel : ℕ → ℕ → ℕ → ℕ → ℕ → Call
   event : Panel → Event → Area → Call
   event_bare : Panel → Event → Call
-  -- a network: setting_up with n, t, writer and initial value; starts, a delivery (kind, sender, receiver), power loss, search
+  -- a network: set-up with n, t, writer and initial value; starts, a delivery (kind, sender, receiver), power loss, search
   setting_up : ℕ → ℕ → ℕ → ℕ → Call
   write : Network → ℕ → Call
   read : Network → ℕ → Call

@@ -1,5 +1,7 @@
 // Bytes and four-byte numbers, high byte first, in lent bytes. Every call takes any bytes and any place: past the end
 // a byte reads as 0, and is not written.
+#![tactic(auto)]
+
 ghost use Rattle.std.specs.Prelude.{◌≡◌, ◌<◌, get_or, set};
 ghost use Rattle.std.proofs.lemmas.List.Edits.{sets};
 ghost use Rattle.codec.specs.Numbers.{bytes_of, number_at};

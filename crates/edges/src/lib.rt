@@ -1,5 +1,6 @@
 // The panel's events over a lent slice of message structs, in place of the three slices of numbers that the panel's own calls
 // take. Each event is what `events` makes of it; its messages are laid into local arrays and poured from there into the slice.
+#![tactic(auto)]
 ghost use Rattle.std.specs.Prelude.{◌≡◌, min, ◌≤◌, ◌<◌, length};
 ghost use Rattle.refusals.specs.Refusals.Event.{write, read, write_from, read_from, proceed_from};
 ghost use Rattle.events.specs.Events.{happens};
@@ -11,7 +12,7 @@ use events::Done;
 use messages::Sends;
 use panel::{Outcome, Panel};
 
-#[derive(Drop)]
+#[derive(Clone, Copy)]
 pub struct Message {
     pub to: u8,
     pub kind: u8,
@@ -19,7 +20,7 @@ pub struct Message {
 }
 
 // What is sent, in columns: 7 messages at most by the event's own rule, 7 by a held WRITE, and 255 PROCEEDs.
-#[derive(Drop)]
+#[derive(Clone, Copy)]
 struct Columns {
     receivers: [u8; 269],
     kinds: [u8; 269],
@@ -28,7 +29,7 @@ struct Columns {
 }
 
 // What an event gives to an area: the columns, how many of their messages have a place there, and the outcome.
-#[derive(Drop)]
+#[derive(Clone, Copy)]
 struct Parcel {
     columns: Columns,
     placed: usize,

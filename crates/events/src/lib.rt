@@ -1,5 +1,7 @@
 // What one event does to a panel's tables: refused, or its rule and then the look at the operation. `room` is how many
 // messages the lent area holds; a caller that lends none says 107.
+#![tactic(auto)]
+
 mod look;
 mod rules;
 mod take;
@@ -11,7 +13,7 @@ use tables::WriteNo;
 pub use take::write_from_done;
 
 // The result of an event: a refusal's number; nothing; the number of a finished write; the number and value read.
-#[derive(Drop)]
+#[derive(Clone, Copy)]
 pub enum Answer {
     Refused(u8),
     Nothing,
@@ -20,28 +22,28 @@ pub enum Answer {
 }
 
 // The panel after a look at its operation, and the result.
-#[derive(Drop)]
+#[derive(Clone, Copy)]
 pub struct Looked {
     pub tables: Tables,
     pub answer: Answer,
 }
 
 // What taking one WRITE comes to: the next tables, and what goes out for it.
-#[derive(Drop)]
+#[derive(Clone, Copy)]
 pub struct Took {
     pub tables: Tables,
     pub cast: Cast,
 }
 
 // What the rule of an event comes to, before the operation is looked at.
-#[derive(Drop)]
+#[derive(Clone, Copy)]
 pub struct Ruled {
     pub tables: Tables,
     pub sends: Sends,
 }
 
 // What an event comes to: the next tables, the result, and what is sent.
-#[derive(Drop)]
+#[derive(Clone, Copy)]
 pub struct Done {
     pub tables: Tables,
     pub answer: Answer,

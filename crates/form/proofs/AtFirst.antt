@@ -1,4 +1,4 @@
--- A fresh panel is in form, whatever n, t, writer, number and initial value setting_up takes.
+-- A fresh panel is in form, whatever n, t, writer, number and initial value set-up takes.
 -- Assumes nothing.
 use mathlib.Core.{Bool.{true, false}, Path.{◌≡◌, refl, sym, ap, subst, ◌∙◌}}
 use Prim.Native.Nat.{ℕ, ◌-◌, ◌<◌}

@@ -1,4 +1,4 @@
--- When a panel is in form, clause by clause as the description's paragraph has it, and the panel that setting_up makes.
+-- When a panel is in form, clause by clause as the description's paragraph has it, and the panel that set-up makes.
 -- Assumes nothing.
 use Rattle.std.specs.Prelude.{ℕ, ◌+◌, ◌*◌, Bool, true}
 use lib.{Dec.{leb, ltb, eqb}, ListN.{replicate, set}}
@@ -8,7 +8,7 @@ use Rattle.tables.specs.declared.{Hold.Hold, Line.Line}
 use Rattle.form.specs.{Setting.{own_w, own_r}, declared.Operation.Operation}
 use Rattle.form.specs.declared.{Operation.TheVariants.{Idle, Writing, FirstWait, SecondWait}, Tables.Tables}
 
--- what setting_up takes: "n 1 to 7; t with 2·t < n; writer 1 to n"
+-- what set-up takes: "n 1 to 7; t with 2·t < n; writer 1 to n"
 unfoldable pub fits : ℕ → ℕ → ℕ → Bool
 fits n t writer = both (leb 1 n) (both (leb n 7) (both (ltb (2 * t) n) (both (leb 1 writer) (leb writer n))))
 

@@ -1,4 +1,6 @@
 // Whether a panel is in form, and the fresh panel.
+#![tactic(auto)]
+
 ghost use Rattle.std.specs.Prelude.{◌≡◌, ◌+◌, ◌≤◌, ◌<◌, leb, eqb};
 ghost use Rattle.basics.specs.Below.{all_below};
 ghost use Rattle.form.specs.Form.{fits, is_panel, place_with, place_ok, operation_ok, in_form, fresh, empty_line};
@@ -8,7 +10,7 @@ use basics::{both, choose, wide};
 use tables::{Hold, Line, ReadNo, WriteNo};
 
 // What a panel is doing: nothing; writing (line 3); reading, first wait (line 7); reading, second wait with its sn (line 9).
-#[derive(Drop)]
+#[derive(Clone, Copy)]
 pub enum Operation {
     Idle,
     Writing,
@@ -17,7 +19,7 @@ pub enum Operation {
 }
 
 // The tables of panel `number` of `n`, of which `t` may be down. Place 0 of a table is panel 1.
-#[derive(Drop)]
+#[derive(Clone, Copy)]
 pub struct Tables {
     pub n: u8,
     pub t: u8,

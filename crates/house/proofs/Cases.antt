@@ -19,7 +19,7 @@ use Rattle.house.specs.NetForm as net
 panel : ℕ → ℕ → Panel
 panel number initial = record { tables = fresh 3 1 1 number initial }
 
--- three panels, one of which may be down, as setting_up leaves them
+-- three panels, one of which may be down, as set-up leaves them
 three : Network
 unfolding panel
 three =

@@ -7,7 +7,7 @@ use native.Mathlib.{Decide.dec_lt, Nat.{not-suc-le-zero, eq-or-lt_of_le, le_of_s
 use Rattle.basics.{proofs.Choices.{ite-true, ite-false, ite-case, clash, both_left, both_right, both_true}, specs.Choice.both}
 use Rattle.channels.{proofs.Flying.{has-iff, none-empty}, proofs.RowForm.{RowForm, row_ok-iff}, specs.Channels.{no_channel, in_flight, has}}
 use Rattle.channels.specs.declared.Channel.{Channel}
-use Rattle.house.specs.{Places.{row_at, channel_of, n_of}, Search.{live, first_below_lem, spot_at, of_pair, of_sender, first_in, flying}}
+use Rattle.house.specs.{Places.{row_at, channel_of, n_of}, Search.{live, first_below, spot_at, of_pair, of_sender, first_in, flying}}
 use Rattle.house.specs.declared.{Found.Found, Network.Network}
 use Rattle.house.proofs.{NetForms.Formed, Turns.{first-none, first_step, spot}}
 
@@ -17,15 +17,15 @@ use Rattle.house.proofs.{NetForms.Formed, Turns.{first-none, first_step, spot}}
 record First (n : ℕ) (f : ℕ → Found) : Type 0 where
   place : ℕ
   below : place < n
-  is : first_below_lem n f ≡ f place
+  is : first_below n f ≡ f place
   hits : (f place).any ≡ true
   before : (k : ℕ) → k < place → (f k).any ≡ false
 
-nothing-below : (n : ℕ) (f : ℕ → Found) → (first_below_lem n f).any ≡ false → (k : ℕ) → k < n → (f k).any ≡ false
+nothing-below : (n : ℕ) (f : ℕ → Found) → (first_below n f).any ≡ false → (k : ℕ) → k < n → (f k).any ≡ false
 nothing-below zero f e k h = absurd (not-suc-le-zero h)
-nothing-below (suc n) f e k h = by (first_below_lem n f).any refl (nothing-below n f)
+nothing-below (suc n) f e k h = by (first_below n f).any refl (nothing-below n f)
   where
-    by : (b : Bool) → (first_below_lem n f).any ≡ b → ((first_below_lem n f).any ≡ false → (m : ℕ) → m < n → (f m).any ≡ false) → (f k).any ≡ false
+    by : (b : Bool) → (first_below n f).any ≡ b → ((first_below n f).any ≡ false → (m : ℕ) → m < n → (f m).any ≡ false) → (f k).any ≡ false
     by true q lower = clash (ap (λ (x : Found). x.any) (sym (first_step n f ∙ ite-true _ _ q)) ∙ e) q
     by false q lower =
         ⊎_elim
@@ -33,16 +33,16 @@ nothing-below (suc n) f e k h = by (first_below_lem n f).any refl (nothing-below
         (λ (l : k < n). lower q k l)
         (eq-or-lt_of_le (le_of_suc-le-suc h))
 
-first_below_lem : (n : ℕ) (f : ℕ → Found) → (first_below_lem n f).any ≡ true → First n f
+first_below_lem : (n : ℕ) (f : ℕ → Found) → (first_below n f).any ≡ true → First n f
 first_below_lem zero f e = clash (ap (λ (x : Found). x.any) (first-none f)) e
-first_below_lem (suc n) f e = by (first_below_lem n f).any refl (first_below_lem n f)
+first_below_lem (suc n) f e = by (first_below n f).any refl (first_below_lem n f)
   where
-    by : (b : Bool) → (first_below_lem n f).any ≡ b → ((first_below_lem n f).any ≡ true → First n f) → First (suc n) f
+    by : (b : Bool) → (first_below n f).any ≡ b → ((first_below n f).any ≡ true → First n f) → First (suc n) f
     by true q lower =
         let r : First n f = lower q in
         record { place = r.place; below = omega (arith, r.below); is = first_step n f ∙ ite-true _ _ q ∙ r.is; hits = r.hits; before = r.before }
     by false q lower =
-        let is : first_below_lem (suc n) f ≡ f n = first_step n f ∙ ite-false _ _ q in
+        let is : first_below (suc n) f ≡ f n = first_step n f ∙ ite-false _ _ q in
         record { place = n; below = omega arith; is = is; hits = ap (λ (x : Found). x.any) (sym is) ∙ e; before = nothing-below n f q }
 
 -- ---- nothing found

@@ -1,5 +1,6 @@
 // The tables of a network: its panels, the channels between them, and which panels are down. Whether it is in form, and the first
 // message in flight to a live panel. Every call here takes any network and any numbers.
+#![tactic(auto)]
 ghost use Rattle.std.specs.Prelude.{◌≡◌, true, not, ℕ, ◌≤◌, ◌<◌, length};
 ghost use Rattle.basics.specs.Choice.{both};
 ghost use Rattle.basics.specs.Below.{all_below, one_if};
@@ -17,7 +18,7 @@ use panel::Panel;
 use tables::Line;
 
 // Place 0 is panel 1; a row holds the channels that leave its panel.
-#[derive(Drop)]
+#[derive(Clone, Copy)]
 pub struct Network {
     pub panels: [Panel; 7],
     pub rows: [Row; 7],
@@ -25,7 +26,7 @@ pub struct Network {
 }
 
 // A message in flight, by the numbers of its two panels and its kind, or none.
-#[derive(Drop)]
+#[derive(Clone, Copy)]
 pub struct Found {
     pub any: bool,
     pub sender: u8,

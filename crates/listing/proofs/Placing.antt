@@ -1,4 +1,4 @@
--- A record after the setting_up is a second setting_up, a drain or another step: its lines, and the network after it. What holds in every run
+-- A record after the set-up is a second set-up, a drain or another step: its lines, and the network after it. What holds in every run
 -- from fresh is kept, and the deliveries made so far do not fall.
 -- Assumes nothing.
 use mathlib.Core.{List.{[], ◌∷◌}, Logic.◌≢◌, Path.{◌≡◌, sym, subst, ◌∙◌}}
@@ -69,6 +69,6 @@ module _ (s : Network) (h : Holds s) where
   unfolding does did
   delivered-keeps k i j = does-keeps (deliver k i j)
 
--- what setting_up makes, where it is not refused
+-- what set-up makes, where it is not refused
 pub set-up-holds : (n t writer v : ℕ) → (set_up n t writer v).refusal ≡ 0 → Holds (set_up n t writer v).network
 set-up-holds n t writer v z = subst Holds (sym (set-up-network n t writer v)) (start-holds n t writer v (set-up-fits n t writer v z))

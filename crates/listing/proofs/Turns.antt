@@ -87,7 +87,7 @@ module _ (r : Record) where
       unfolding step_of
       step-delivers d = sym (ite-false _ _ (ne_eqb _ _ a) ∙ ite-false _ _ (ne_eqb _ _ b) ∙ ite-false _ _ (ne_eqb _ _ d))
 
--- ---- a record after the setting_up
+-- ---- a record after the set-up
 
 module _ (f : Found) (q : Read) (at : ℕ) where
   pub record-refused : q.refusal ≢ 0 → quiet (last_line (unread q)) ≡ record_turn f q at

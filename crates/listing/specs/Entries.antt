@@ -70,9 +70,9 @@ drain_entries s =
     (deliveries_by (drained s).count s ++ (entry drain 0 100 (drained s).count ∷ []))
     (entry drain (drained s).refusal 0 0 ∷ [])
 
--- ---- a record after the setting_up
+-- ---- a record after the set-up
 
--- what a record other than setting_up and drain comes to
+-- what a record other than set-up and drain comes to
 unfoldable pub stepped : Network → Record → Stepped
 stepped s r =
     ite (eqb r.kind 1) (written s r.value)

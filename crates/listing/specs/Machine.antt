@@ -52,7 +52,7 @@ drain_step s f at count =
 unfoldable pub drain_line : Network → ℕ → ℕ → Bench
 drain_line s at count = drain_step s (sought s).found at count
 
--- the line of a record after the setting_up, and for a drain its first line; the next record stands at place at
+-- the line of a record after the set-up, and for a drain its first line; the next record stands at place at
 unfoldable pub record_line : Network → Read → ℕ → Bench
 record_line s q at =
     ite (eqb q.refusal 0)
@@ -69,7 +69,7 @@ next_line bytes b =
     (record_line b.network (reading bytes b.at) (b.at + (reading bytes b.at).used))
     (silent b.network)))
 
--- the line of the first record, and what its setting_up makes
+-- the line of the first record, and what its set-up makes
 unfoldable pub first_record : Read → Ready → Bench
 first_record q made =
     ite (eqb q.refusal 0)

@@ -47,7 +47,7 @@ quiet b = record { step = no_step; tells = false; «record» = drain; stand = b 
 abbrev pub steps : Step → Record → Stand → Turn
 steps m r b = record { step = m; tells = true; «record» = r; stand = b }
 
--- the step of a record other than setting_up and drain
+-- the step of a record other than set-up and drain
 unfoldable pub step_of : Record → Step
 step_of r =
     ite (eqb r.kind 1) (step_at 1 0 r.value)

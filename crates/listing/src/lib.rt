@@ -1,4 +1,5 @@
 // The bench's listing: a schedule read record by record, each a call of the network, and a line for each into a lent area.
+#![tactic(auto)]
 mod records;
 
 ghost use Rattle.std.specs.Prelude.{◌≡◌, ◌+◌, ◌^◌, ◌≤◌, ◌<◌, length};
@@ -13,7 +14,7 @@ use schedule::Record;
 use text::Line;
 
 // What the call answers: 0 and how many bytes it wrote, or the number of a refusal.
-#[derive(Drop)]
+#[derive(Clone, Copy)]
 pub struct Listed {
     pub refusal: u8,
     pub length: usize,
@@ -21,7 +22,7 @@ pub struct Listed {
 
 // The bench has given a line, if there was one. It reads on at `at`, unless it has ended; while it drains, count is how many
 // deliveries it has listed.
-#[derive(Drop)]
+#[derive(Clone, Copy)]
 struct Stand {
     any: bool,
     line: Line,
@@ -32,7 +33,7 @@ struct Stand {
 }
 
 // What the bench does next: a step, or none; where it then stands; and whether its line tells the answer to `record`.
-#[derive(Drop)]
+#[derive(Clone, Copy)]
 struct Turn {
     step: Step,
     tells: bool,
@@ -41,7 +42,7 @@ struct Turn {
 }
 
 // The network that the first record makes, and where the bench then stands.
-#[derive(Drop)]
+#[derive(Clone, Copy)]
 struct Start {
     network: Network,
     stand: Stand,

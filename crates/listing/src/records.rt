@@ -194,7 +194,7 @@ fn steps(m: Step, r: Record, b: Stand) -> Turn
     }
 }
 
-// The step of a record other than setting_up and drain.
+// The step of a record other than set-up and drain.
 fn step_of(r: Record) -> Step
     requires { r.kind ≢ 0 }
     ensures { result ≡ step_of r }
@@ -232,7 +232,7 @@ fn drain_turn(rows: [Row; 7], down: [bool; 7], at: usize, count: u32) -> Turn
     steps(m, r, mid_drain(no_line(), at, count + 1))
 }
 
-// A record after the setting_up; behind it stands place at.
+// A record after the set-up; behind it stands place at.
 fn record_turn(rows: [Row; 7], down: [bool; 7], q: Read, at: usize) -> Turn
     ensures { result ≡ record_turn (first_in (flying rows down)) q at }
 {

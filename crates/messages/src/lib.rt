@@ -1,4 +1,6 @@
 // What one event sends, and how it is laid into the three lent slices of a message area.
+#![tactic(auto)]
+
 ghost use Rattle.std.specs.Prelude.{◌≡◌, [], ◌∷◌, min, ◌<◌, set};
 ghost use Rattle.basics.specs.Choice.{ite};
 ghost use Rattle.messages.specs.Sends.{no_cast, no_sends, cast_of, proceeds_to};
@@ -7,7 +9,7 @@ ghost use Rattle.messages.specs.Area.{room_of, laying, Further};
 use basics::least;
 
 // The same message to each marked panel; place 0 is panel 1.
-#[derive(Drop)]
+#[derive(Clone, Copy)]
 pub struct Cast {
     pub to: [bool; 7],
     pub kind: u8,
@@ -15,7 +17,7 @@ pub struct Cast {
 }
 
 // All that one event sends: by its own rule, by a held WRITE, and PROCEEDs to one peer.
-#[derive(Drop)]
+#[derive(Clone, Copy)]
 pub struct Sends {
     pub own: Cast,
     pub held: Cast,

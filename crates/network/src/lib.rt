@@ -1,5 +1,6 @@
-// The network's steps: setting_up, starts, deliveries, power loss and drain. Every public call takes any network and any numbers, and
+// The network's steps: set-up, starts, deliveries, power loss and drain. Every public call takes any network and any numbers, and
 // tries 2 first. Nothing here knows how a panel does its work.
+#![tactic(auto)]
 ghost use Rattle.std.specs.Prelude.{◌≡◌, true, ℕ, ◌+◌};
 ghost use Rattle.basics.specs.Below.{list_below};
 ghost use Rattle.panel.specs.Calls.{made};
@@ -114,7 +115,7 @@ fn drain_in(s: Network) -> Drained
     }
 }
 
-// ---- setting_up
+// ---- set-up
 
 fn fresh_panel(n: u8, t: u8, writer: u8, number: u8, initial: u32) -> Panel
     ensures { result ≡ (made n t writer number initial).panel }

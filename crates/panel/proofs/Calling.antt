@@ -25,7 +25,7 @@ pub after-as : (p : Panel) (e : Event) (d : Done) (q : Next) → d ≡ happens p
 unfolding after
 after-as p e d q h n = n ∙ ap next_of h
 
--- ---- setting_up
+-- ---- set-up
 
 pub nothing_is : nothing ≡ panel_of (fresh 0 0 0 0 0)
 unfolding nothing

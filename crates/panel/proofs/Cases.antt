@@ -1,4 +1,4 @@
--- The description's cases for setting_up, computed on the definitions: P "n=7, t=3 taken", P "n=6, t=3 refused 1", and the other sides
+-- The description's cases for set-up, computed on the definitions: P "n=7, t=3 taken", P "n=6, t=3 refused 1", and the other sides
 -- of the same line.
 -- Assumes nothing.
 use mathlib.Core.{List.{[], ◌∷◌}, Path.{◌≡◌, refl}}

@@ -37,13 +37,13 @@ told d a =
 unfoldable pub called : Panel → Event → Area → Called
 called p e a = told (happens p.tables (room_of a) e) a
 
--- ---- setting_up
+-- ---- set-up
 
--- what setting_up leaves where it refuses: a panel of zeros
+-- what set-up leaves where it refuses: a panel of zeros
 unfoldable pub nothing : Panel
 nothing = panel_of (fresh 0 0 0 0 0)
 
--- setting_up of a lone panel: 1 for n, t or writer, then 4 for its number
+-- set-up of a lone panel: 1 for n, t or writer, then 4 for its number
 unfoldable pub made : ℕ → ℕ → ℕ → ℕ → ℕ → Made
 made n t writer number initial =
     ite (fits n t writer)

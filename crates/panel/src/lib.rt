@@ -2,6 +2,8 @@
 //
 // `write`, `read`, `write_from`, `read_from` and `proceed_from` lay what they send into a lent message area, three slices.
 // `after_write` and the like take no area, and hand what is sent back as it is.
+#![tactic(auto)]
+
 ghost use Rattle.std.specs.Prelude.{◌≡◌};
 ghost use Rattle.messages.specs.Area.{Area};
 ghost use Rattle.form.specs.Form.{in_form};
@@ -12,13 +14,13 @@ use events::{Answer, Done};
 use form::Tables;
 use messages::Sends;
 
-#[derive(Drop)]
+#[derive(Clone, Copy)]
 pub struct Panel {
     pub tables: Tables,
 }
 
 // The next panel, the result, and what is sent.
-#[derive(Drop)]
+#[derive(Clone, Copy)]
 pub struct Next {
     pub panel: Panel,
     pub answer: Answer,
@@ -26,15 +28,15 @@ pub struct Next {
 }
 
 // The next panel, the result, and how many messages stand in the lent area.
-#[derive(Drop)]
+#[derive(Clone, Copy)]
 pub struct Outcome {
     pub panel: Panel,
     pub answer: Answer,
     pub count: usize,
 }
 
-// What setting_up makes: a panel and 0, or the number of a refusal and a panel of zeros.
-#[derive(Drop)]
+// What set-up makes: a panel and 0, or the number of a refusal and a panel of zeros.
+#[derive(Clone, Copy)]
 pub struct Made {
     pub refusal: u8,
     pub panel: Panel,

@@ -2,6 +2,7 @@
 // and which panels are down. Every call here takes any parts and any numbers. Nothing here knows how a panel does its work.
 //
 // A network is large; whoever holds one takes the parts out, moves them, and puts them back.
+#![tactic(auto)]
 ghost use Rattle.std.specs.Prelude.{◌≡◌, true, false, ◌+◌, ◌-◌, ◌<◌, get_or, set};
 ghost use Rattle.panel.specs.Calls.{after};
 ghost use Rattle.promise.specs.View.{code_of};
@@ -16,7 +17,7 @@ use panel::{Next, Panel};
 
 // What a step is: 1 a start of a write of `value`, 2 of a read by panel `at`, 3 a delivery of a message of kind `kind` from panel `from` to
 // panel `at`, 4 power loss of panel `at`; any other number is no step.
-#[derive(Drop)]
+#[derive(Clone, Copy)]
 pub struct Step {
     pub what: u8,
     pub kind: u8,
@@ -26,7 +27,7 @@ pub struct Step {
 }
 
 // The network's n, t and writer, who is down, the panel that acts, the channels that leave the sender, and those that leave the panel.
-#[derive(Drop)]
+#[derive(Clone, Copy)]
 pub struct Parts {
     pub n: u8,
     pub t: u8,
@@ -38,7 +39,7 @@ pub struct Parts {
 }
 
 // The answer, and the parts afterwards.
-#[derive(Drop)]
+#[derive(Clone, Copy)]
 pub struct Moved {
     pub answer: Answer,
     pub parts: Parts,

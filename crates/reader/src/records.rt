@@ -11,7 +11,7 @@ pub struct Reader<'a> {
 }
 
 // What stands at a place, and the place behind it.
-#[derive(Drop)]
+#[derive(Clone, Copy)]
 pub struct Step {
     pub read: Read,
     pub at: usize,

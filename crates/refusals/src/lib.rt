@@ -1,4 +1,6 @@
 // The refusals of each event, tried in the order of their numbers; 0 where there is none.
+#![tactic(auto)]
+
 ghost use Rattle.std.specs.Prelude.{◌≡◌, ◌-◌, ◌≤◌, ◌<◌};
 ghost use Rattle.form.specs.Form.{in_form, at_writer};
 ghost use Rattle.refusals.specs.Refusals.{is_peer, is_idle, right_bit, too_high, stray, line_full, first_trials, peer_trials, write_trials, read_trials, write_from_trials, read_from_trials, proceed_from_trials};

@@ -34,7 +34,7 @@ refused-read :
 unfolding reading answered item_at records row singles carries size_of total numbers_at number_at record_of single value_behind refusing ite
 refused-read = (refl, refl)
 
--- a setting_up, with the area past it as it was; a read with a value; an unknown kind, with no room and with room for one byte
+-- a set-up, with the area past it as it was; a read with a value; an unknown kind, with no room and with room for one byte
 written-cases :
     (writing (record { kind = 0; a = 3; b = 1; c = 1; value = 700 }) (9 ∷ 9 ∷ 9 ∷ 9 ∷ 9 ∷ 9 ∷ 9 ∷ 9 ∷ 9 ∷ [])
     ≡ record { answer = record { refusal = 0; used = 8 }; area = 0 ∷ 3 ∷ 1 ∷ 1 ∷ 0 ∷ 0 ∷ 2 ∷ 188 ∷ 9 ∷ [] })

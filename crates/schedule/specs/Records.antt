@@ -1,4 +1,4 @@
--- Schedule records: "0 setting_up (n, t, writer, 4-byte initial value), 1 write (4-byte value), 2 read (panel), 3 WRITE0,
+-- Schedule records: "0 set-up (n, t, writer, 4-byte initial value), 1 write (4-byte value), 2 read (panel), 3 WRITE0,
 -- 4 WRITE1, 5 READ, 6 PROCEED (sender, receiver), 7 power loss (panel), 8 drain". Reading takes the record that stands at a
 -- place of the schedule and says how many bytes it used; writing tries 3, then 15.
 -- Assumes nothing.
@@ -14,7 +14,7 @@ use Rattle.schedule.specs.declared.{Read.Read, Record.Record, Written.Written}
 abbrev pub lengths : List ℕ
 lengths = 7 ∷ 4 ∷ 1 ∷ 2 ∷ 2 ∷ 2 ∷ 2 ∷ 1 ∷ 0 ∷ []
 
--- how many numbers of one byte a body begins with: n, t and writer of a setting_up, the panel of a read and of a power loss,
+-- how many numbers of one byte a body begins with: n, t and writer of a set-up, the panel of a read and of a power loss,
 -- sender and receiver of a delivery
 abbrev pub singles_by_kind : List ℕ
 singles_by_kind = 3 ∷ 0 ∷ 1 ∷ 2 ∷ 2 ∷ 2 ∷ 2 ∷ 1 ∷ 0 ∷ []
@@ -22,7 +22,7 @@ singles_by_kind = 3 ∷ 0 ∷ 1 ∷ 2 ∷ 2 ∷ 2 ∷ 2 ∷ 1 ∷ 0 ∷ []
 unfoldable pub singles : ℕ → ℕ
 singles k = get_or singles_by_kind k 0
 
--- the kinds whose body ends with a value: setting_up and write
+-- the kinds whose body ends with a value: set-up and write
 unfoldable pub carries : ℕ → Bool
 carries k = ltb k 2
 

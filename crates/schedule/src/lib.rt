@@ -1,4 +1,6 @@
 // Schedule records: read one after the other from a lent schedule, and written into lent bytes.
+#![tactic(auto)]
+
 ghost use Rattle.std.specs.Prelude.{◌≡◌, ◌≤◌, ◌<◌, true, [], ◌∷◌, get_or};
 ghost use Rattle.std.proofs.lemmas.List.Edits.{sets};
 ghost use Rattle.basics.specs.Choice.{ite, both};
@@ -8,9 +10,9 @@ ghost use Rattle.schedule.specs.Records.{lengths, singles, records, bytes_of_rec
 
 use basics::both;
 
-// A record. A setting_up has n, t, writer and initial value in a, b, c and value; a write has its value; a read and a power
+// A record. A set-up has n, t, writer and initial value in a, b, c and value; a write has its value; a read and a power
 // loss have the panel in a; a delivery has sender and receiver in a and b; a drain has nothing.
-#[derive(Drop)]
+#[derive(Clone, Copy)]
 pub struct Record {
     pub kind: u8,
     pub a: u8,
@@ -20,7 +22,7 @@ pub struct Record {
 }
 
 // What reading answers: 0, the record and how many bytes it used; or the number of a refusal, with the kind byte as it stands.
-#[derive(Drop)]
+#[derive(Clone, Copy)]
 pub struct Read {
     pub refusal: u8,
     pub record: Record,
@@ -28,7 +30,7 @@ pub struct Read {
 }
 
 // What writing answers: 0 and how many bytes it used, or the number of a refusal.
-#[derive(Drop)]
+#[derive(Clone, Copy)]
 pub struct Written {
     pub refusal: u8,
     pub used: usize,

@@ -24,7 +24,7 @@ use Rattle.house.specs.declared.Network.{Network}
 use Rattle.steps.specs.{Moves.AllWait, Numbers.world_of, SetUp.{fresh_network, set_up}}
 use Rattle.steps.proofs.Networks.{Good}
 
--- ---- setting_up of one panel
+-- ---- set-up of one panel
 
 module _ (n t writer v : ℕ) (ok : fits n t writer ≡ true) where
   made-panel : (i : ℕ) → i < n → (made n t writer (i + 1) v).panel ≡ panel_of (fresh n t writer (i + 1) v)

@@ -8,7 +8,7 @@ use Rattle.channels.specs.Channels.{empty_row}
 use Rattle.house.specs.declared.Network.{Network}
 use Rattle.steps.specs.declared.Ready.{Ready}
 
--- a panel that setting_up does not make is all zero
+-- a panel that set-up does not make is all zero
 unfoldable pub fresh_network : ℕ → ℕ → ℕ → ℕ → Network
 fresh_network n t writer initial =
     record {
@@ -17,7 +17,7 @@ fresh_network n t writer initial =
       down = replicate 7 false;
     }
 
--- 1: "setting_up with n, t or writer out of range"
+-- 1: "set-up with n, t or writer out of range"
 unfoldable pub set_up : ℕ → ℕ → ℕ → ℕ → Ready
 set_up n t writer initial =
     record { refusal = ite (fits n t writer) 0 1; network = fresh_network n t writer initial }

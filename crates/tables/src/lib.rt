@@ -1,5 +1,7 @@
 // The numbers, holds and lines that a panel keeps, and what is worked out of them place by place. Every call here takes any
 // tables and any numbers.
+#![tactic(auto)]
+
 ghost use Rattle.std.specs.Prelude.{◌≡◌, false, ℕ, ◌-◌, ◌≤◌, ◌<◌, leb, ltb, eqb, get_or};
 ghost use Rattle.basics.specs.Choice.{ite, both};
 ghost use Rattle.basics.specs.Below.{one_if, count_below};
@@ -10,22 +12,22 @@ ghost use Rattle.tables.specs.Lines.{joined, leaving, without};
 use basics::{both, choose, one_if, wide};
 
 // How far a panel is known to be with writes. Never counted or compared as a read number.
-#[derive(Drop)]
+#[derive(Clone, Copy)]
 pub struct WriteNo(pub u8);
 
 // Own reads, or the PROCEEDs of a peer. Never counted or compared as a write number.
-#[derive(Drop)]
+#[derive(Clone, Copy)]
 pub struct ReadNo(pub u8);
 
 // A held WRITE of a peer, if there is one.
-#[derive(Drop)]
+#[derive(Clone, Copy)]
 pub struct Hold {
     pub full: bool,
     pub value: u32,
 }
 
 // Waiting READs of a peer, oldest first, each with its write number.
-#[derive(Drop)]
+#[derive(Clone, Copy)]
 pub struct Line {
     pub len: u8,
     pub sn: [WriteNo; 100],

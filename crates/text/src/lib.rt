@@ -1,10 +1,12 @@
 // The text of the bench's listing: its first line, the line of a longer input, and the line of one step, by value.
+#![tactic(auto)]
+
 ghost use Rattle.std.specs.Prelude.{◌≡◌, [], ◌∷◌, ◌+◌, ◌≤◌, ◌<◌, length};
 ghost use Rattle.text.specs.Text.{dec, panel_text, result_text, line_text, first_line, too_long, text_of, Appended};
 
 // A line. It shows no panel number where shown is 0, only a where it is 1, and else a and b. Its tag is 0 where nothing
 // finished; else it is the byte of a letter, with number behind it.
-#[derive(Drop)]
+#[derive(Clone, Copy)]
 pub struct Line {
     pub step: u32,
     pub kind: u8,
@@ -17,7 +19,7 @@ pub struct Line {
 }
 
 // The first length bytes; those past them are zero.
-#[derive(Drop)]
+#[derive(Clone, Copy)]
 pub struct Text {
     pub length: usize,
     pub bytes: [u8; 40],

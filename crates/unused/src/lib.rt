@@ -1,4 +1,6 @@
 // Whether a panel's tables are unused. No test leaves a loop early: the compiler then tests many places at once.
+#![tactic(auto)]
+
 ghost use Rattle.std.specs.Prelude.{◌≡◌};
 ghost use Rattle.basics.specs.Below.{all_below};
 ghost use Rattle.unused.specs.Unused.{line_unused, history_unused, place_with, place_unused, idle, unused};

@@ -1,17 +1,19 @@
 // Messages on the wire: written into lent bytes, and read from the front of lent bytes.
+#![tactic(auto)]
+
 ghost use Rattle.std.specs.Prelude.{◌≡◌};
 ghost use Rattle.codec.specs.Items.{size_of};
 ghost use Rattle.wire.specs.Messages.{wire, reading, writing, Written};
 
 // What reading answers: a message and how many bytes it used, or the number of a refusal.
-#[derive(Drop)]
+#[derive(Clone, Copy)]
 pub enum Taken {
     Message { kind: u8, value: u32, used: usize },
     Refused(u8),
 }
 
 // What writing answers: how many bytes it used, or the number of a refusal.
-#[derive(Drop)]
+#[derive(Clone, Copy)]
 pub enum Put {
     Used(usize),
     Refused(u8),

@@ -1,0 +1,11 @@
+use Rattle.std.proofs.Common.{rules}
+use Rattle.basics.proofs.one_if.Goals as goal
+use Rattle.basics.specs.Below.{one_if}
+
+pub returns-then-b : goal.returns-then-b
+unfolding one_if
+returns-then-b c = (simp c.if-b.true, search rules)
+
+pub returns-else-b : goal.returns-else-b
+unfolding one_if
+returns-else-b c = (simp c.if-b.false, search rules)

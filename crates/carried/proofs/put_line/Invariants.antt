@@ -1,0 +1,15 @@
+use Prim.Native.Nat.{ℕ, ◌+◌, ◌≤◌, ◌-◌}
+use borrow.Author.Rules.{rules}
+use lib.ListN.{length, length-set}
+use mathlib.Core.{List.{[], ◌∷◌}, Path.{ap, refl, ◌∙◌}}
+use native.Mathlib.Omega.{arith}
+use Rattle.tables.specs.Places.{w_at}
+use Rattle.carried.proofs.{Rows.{laid-byte, laid_then, laid-length, rows_start, rows-turn, rows_end}}
+use Rattle.carried.specs.{Laid.Laid, Panels.{rows_below, line_bytes}}
+use Rattle.carried.proofs.put_line.Given as goal
+
+abbrev pub invariant-loop-k : goal.invariant-loop-k
+invariant-loop-k v = (v.k ≤ 100) × Laid v.initial.out (v.at + 1) (rows_below v.k (λ (i : ℕ). w_at v.l.sn i ∷ [])) v.out
+
+abbrev pub decreases-loop-k : goal.decreases-loop-k
+decreases-loop-k v = 100 - v.k

@@ -1,0 +1,14 @@
+use Prim.Native.Nat.{ℕ, ◌≤◌, ◌-◌}
+use borrow.Author.Rules.{rules}
+use mathlib.Core.{List.{[], ◌∷◌}, Path.refl}
+use native.Mathlib.Omega.{arith}
+use Rattle.tables.specs.Places.{w_at}
+use Rattle.carried.proofs.{Rows.{rows_end, laid-byte, laid-length, rows_start, rows-turn}}
+use Rattle.carried.specs.{Laid.Laid, Panels.{rows_below, w_bytes}}
+use Rattle.carried.proofs.put_w.Given as goal
+
+abbrev pub invariant-loop-j : goal.invariant-loop-j
+invariant-loop-j l = (l.j ≤ 7) × Laid l.initial.out 8 (rows_below l.j (λ (i : ℕ). w_at l.ws i ∷ [])) l.out
+
+abbrev pub decreases-loop-j : goal.decreases-loop-j
+decreases-loop-j l = 7 - l.j

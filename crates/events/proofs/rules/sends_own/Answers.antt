@@ -1,0 +1,5 @@
+use borrow.Author.Rules.{rules}
+use Rattle.events.proofs.rules.sends_own.Goals as goal
+
+pub returns : goal.returns
+returns c = simp c.no_cast.ensures

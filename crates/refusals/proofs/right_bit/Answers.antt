@@ -1,0 +1,7 @@
+use borrow.Author.Rules.{rules}
+use Rattle.refusals.specs.Refusals.{right_bit}
+use Rattle.refusals.proofs.right_bit.Goals as goal
+
+pub returns : goal.returns
+unfolding right_bit
+returns c = simp (c.bit_number.ensures, c.wide-x.ensures.0, c.number_at.ensures)

@@ -1,0 +1,14 @@
+use Prim.Native.Nat.{◌≤◌, ◌-◌}
+use borrow.Author.Rules.{rules}
+use mathlib.Core.Path.{◌≡◌, refl}
+use native.Mathlib.{Nat.add-sub_cancel, Omega.arith}
+use Rattle.basics.specs.Below.{all_below}
+use Rattle.tables.proofs.{Turns.line-next}
+use Rattle.tables.specs.{Form.{entry_ok, line_ok}, Places.w_at}
+use Rattle.tables.proofs.line_ok.Given as goal
+
+abbrev pub invariant-loop-k : goal.invariant-loop-k
+invariant-loop-k v = (v.k ≤ 100) × (v.place ≡ v.k) × (v.before ≡ w_at v.l.sn (v.k - 1)) × (v.ok ≡ all_below v.k (entry_ok v.l v.low v.high))
+
+abbrev pub decreases-loop-k : goal.decreases-loop-k
+decreases-loop-k v = 100 - v.k

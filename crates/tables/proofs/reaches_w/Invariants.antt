@@ -1,0 +1,15 @@
+use Prim.Native.Nat.{◌≤◌, ◌-◌}
+use borrow.Author.Rules.{rules}
+use lib.ListN.{drop}
+use mathlib.Core.{Bool.false, List.{◌++◌, append-nil}, Path.◌≡◌}
+use native.Mathlib.Omega.{arith}
+use Rattle.basics.specs.Below.{list_below}
+use Rattle.tables.proofs.{Filling.{filled_none, filled_next}}
+use Rattle.tables.specs.Marks.{reaches_w, among, marks}
+use Rattle.tables.proofs.reaches_w.Given as goal
+
+abbrev pub invariant-loop-j : goal.invariant-loop-j
+invariant-loop-j l = (l.j ≤ 7) × (l.marked ≡ list_below l.j (among l.n (reaches_w l.ws l.x.0)) ++ drop l.j l.initial.marked)
+
+abbrev pub decreases-loop-j : goal.decreases-loop-j
+decreases-loop-j l = 7 - l.j

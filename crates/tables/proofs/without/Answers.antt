@@ -1,0 +1,18 @@
+use Prim.Native.Nat.{ℕ, ◌+◌, ◌≤◌, ◌-◌}
+use borrow.Author.Rules.{rules}
+use lib.ListN.{drop, get_or, length-map}
+use mathlib.Core.{List.◌++◌, Path.{◌≡◌, sym, ◌∙◌}}
+use native.Mathlib.Omega.{arith}
+use Rattle.basics.specs.Below.{list_below}
+use Rattle.tables.proofs.{Filling.{filled_none, filled_next}, Turns.without-made}
+use Rattle.tables.specs.Places.{no_write}
+use Rattle.tables.proofs.without.Goals as goal
+
+pub loop-k-init : goal.loop-k-init
+loop-k-init c = (search rules, filled_none _ _)
+
+pub loop-k-preserved : goal.loop-k-preserved
+loop-k-preserved c = let i = c.loop-k.invariant in (omega arith, simp (c.wide-from.ensures.0, i.1) (filled_next _ no_write _ _ (omega arith)))
+
+pub returns : goal.returns
+returns c = without-made _ _ _ _ _ (c.well_formed.0.1.1.1.0.1.0.1) c.loop-k.invariant.0 (simp c.wide-from.ensures.0 at c.loop-k-test.false) c.minus.ensures c.loop-k.invariant.1

@@ -1,0 +1,13 @@
+use Prim.Native.Nat.{◌≤◌, ◌-◌}
+use borrow.Author.Rules.{rules}
+use mathlib.Core.Path.{◌≡◌, refl}
+use native.Mathlib.Omega.{arith}
+use Rattle.basics.{proofs.Below.all-next, specs.Below.all_below}
+use Rattle.unused.specs.Unused.{place_unused}
+use Rattle.unused.proofs.places_unused.Given as goal
+
+abbrev pub invariant-loop-j : goal.invariant-loop-j
+invariant-loop-j l = (l.j ≤ 7) × (l.ok ≡ all_below l.j (place_unused l.p))
+
+abbrev pub decreases-loop-j : goal.decreases-loop-j
+decreases-loop-j l = 7 - l.j
