@@ -1,6 +1,7 @@
 // The panel's events over a lent slice of message structs, in place of the three slices of numbers that the panel's own calls
 // take. Each event is what `events` makes of it; its messages are laid into local arrays and poured from there into the slice.
 #![tactic(auto)]
+
 ghost use Rattle.std.specs.Prelude.{◌≡◌, min, ◌≤◌, ◌<◌, length};
 ghost use Rattle.refusals.specs.Refusals.Event.{write, read, write_from, read_from, proceed_from};
 ghost use Rattle.events.specs.Events.{happens};

@@ -158,7 +158,7 @@ in-flight-between s f i j k hi hj h =
     receiver (no l) = absurd (none-there _ k (row.past j hj (omega arith)) h)
 
     own : i ≡ j → channel_of s i j ≡ no_channel
-    own e = ap (channel_of s i) (sym e) ∙ row.own_val hi
+    own e = ap (channel_of s i) (sym e) ∙ row.own hi
 
 -- two different panels of n
 pub record Pair (n i j : ℕ) : Type 0 where

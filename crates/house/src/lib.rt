@@ -1,6 +1,7 @@
 // The tables of a network: its panels, the channels between them, and which panels are down. Whether it is in form, and the first
 // message in flight to a live panel. Every call here takes any network and any numbers.
 #![tactic(auto)]
+
 ghost use Rattle.std.specs.Prelude.{◌≡◌, true, not, ℕ, ◌≤◌, ◌<◌, length};
 ghost use Rattle.basics.specs.Choice.{both};
 ghost use Rattle.basics.specs.Below.{all_below, one_if};

@@ -1,4 +1,3 @@
-pub mod Lying
 pub mod Places
 pub mod RecordSteps
 pub mod MessageSteps

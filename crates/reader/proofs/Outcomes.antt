@@ -8,7 +8,7 @@ use base.Logic.{SProp}
 use prog.{Memory.Memory, Routine.Routine, Wp.Heap}
 use types.Logic.{Logic}
 use contract.{Lifetimes.Lfts, Monad.{Fun, fact}}
-use denote.Ref.{Bor}
+use denote.{MutBor.MutBor, Ref.Bor}
 use Rattle.basics.specs.Outcome.{OneResult}
 use Rattle.schedule.specs.declared.Read.{Read}
 use Rattle.wire.specs.declared.Taken.{Taken}
@@ -39,7 +39,7 @@ module _ {M : Type 1} {𝓤 : Ura M} (𝓛 : Logic 𝓤) (mem : Memory → SProp
   new-records-says κs s r = refl
 
   pub next-record-says :
-      (κs : Lfts 2) (r q : Bor records.Reader) (a : Read) →
+      (κs : Lfts 2) (r q : MutBor records.Reader) (a : Read) →
       next-record.ensures-1 𝓛 κs mem run r (record { entry = r; exit = q }) a ≡ fact 𝓤 (record { read = a; reader = q.now } ≡ OfRecords.next r.now)
   next-record-says κs r q a = refl
 
@@ -59,7 +59,7 @@ module _ {M : Type 1} {𝓤 : Ura M} (𝓛 : Logic 𝓤) (mem : Memory → SProp
   new-messages-says κs s r = refl
 
   pub next-message-says :
-      (κs : Lfts 2) (r q : Bor messages.Reader) (a : Taken) →
+      (κs : Lfts 2) (r q : MutBor messages.Reader) (a : Taken) →
       next-message.ensures-1 𝓛 κs mem run r (record { entry = r; exit = q }) a ≡ fact 𝓤 (record { taken = a; reader = q.now } ≡ OfMessages.next r.now)
   next-message-says κs r q a = refl
 

@@ -1,0 +1,5 @@
+use borrow.Author.Rules.{rules}
+use Rattle.house.proofs.nothing_at.Goals as goal
+
+pub returns : goal.returns
+returns c = simp (c.both.ensures, c.unused.ensures)

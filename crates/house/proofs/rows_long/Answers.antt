@@ -1,0 +1,16 @@
+use Prim.Native.Nat.{ℕ, ◌≤◌, ◌<◌, ◌-◌}
+use borrow.Author.{Count.below_more, Rules.rules}
+use lib.ListN.{length}
+use mathlib.Core.Path.{◌≡◌}
+use native.Mathlib.Omega.{arith}
+use Rattle.house.specs.Places.{row_at}
+use Rattle.house.proofs.rows_long.Goals as goal
+
+pub loop-i-init : goal.loop-i-init
+loop-i-init c = (omega arith, λ k h. absurd (omega arith))
+
+pub loop-i-preserved : goal.loop-i-preserved
+loop-i-preserved c = (omega arith, below_more _ _ c.loop-i.invariant.1 c.row_long.ensures)
+
+pub returns : goal.returns
+returns c = λ i h. c.loop-i.invariant.1 i (omega (arith, c.loop-i-test.false))

@@ -1,0 +1,18 @@
+use Prim.Native.Nat.{◌≤◌, ◌-◌}
+use borrow.Author.Rules.{rules}
+use mathlib.Core.Path.{◌≡◌, refl}
+use native.Mathlib.Omega.{arith}
+use Rattle.basics.{proofs.Below.all-next, specs.Below.all_below}
+use Rattle.house.specs.NetForm.{channels_ok}
+use Rattle.house.proofs.rows_ok.Goals as goal
+
+pub loop-i-init : goal.loop-i-init
+unfolding all_below
+loop-i-init c = (omega arith, refl)
+
+pub loop-i-preserved : goal.loop-i-preserved
+unfolding channels_ok
+loop-i-preserved c = (omega arith, simp (all-next, c.both-ok.ensures, c.row_ok.ensures, c.loop-i.invariant.1))
+
+pub returns : goal.returns
+returns c = let e : c.loop-i.i ≡ 7 = omega arith in simp (c.loop-i.invariant.1, e)
