@@ -1,5 +1,6 @@
 // What the network's steps come to: definitions in specs/, their laws in proofs/. There are no functions here.
 #![tactic(auto)]
+
 use events::Answer;
 use house::{Found, Network};
 
