@@ -8,7 +8,7 @@ use base.Logic.{SProp}
 use prog.{Memory.Memory, Routine.Routine, Wp.Heap}
 use types.Logic.{Logic}
 use contract.{Lifetimes.Lfts, Monad.{Fun, fact}}
-use denote.Ref.{Bor}
+use denote.MutBor.{MutBor}
 use Rattle.refusals.specs.Refusals.{Event}
 use Rattle.panel.specs.{Calls.{Called, called}, declared.Outcome.Outcome, declared.Panel.Panel}
 use Rattle.edges.specs.{Columns.columns, declared.Message.Message}
@@ -28,7 +28,7 @@ pub leaves-only : (p : Panel) (e : Event) (ys : List Message) {o r : Outcome} (z
 leaves-only p e ys zs ws f g = (ap (λ (c : Called). c.outcome) (f ∙ sym g), columns-injective zs ws (ap (λ (c : Called). c.area) (f ∙ sym g)))
 
 module _ {M : Type 1} {𝓤 : Ura M} (𝓛 : Logic 𝓤) (mem : Memory → SProp 𝓤) (run : Routine → Fun 𝓤) (κs : Lfts 1) (p : Panel) (o : Outcome)
-    (a b : Bor (List Message)) where
+    (a b : MutBor (List Message)) where
   pub write-says : (v : ℕ) → (write.clauses 𝓛 mem run κs (p, (v, (a, tt)))).ensures tt o (p, (v, (b, tt))) ≡ fact 𝓤 (Leaves p (Event.write v) a.now o b.now)
   write-says v = refl
 

@@ -3,6 +3,7 @@
 //
 // A network is large; whoever holds one takes the parts out, moves them, and puts them back.
 #![tactic(auto)]
+
 ghost use Rattle.std.specs.Prelude.{◌≡◌, true, false, ◌+◌, ◌-◌, ◌<◌, get_or, set};
 ghost use Rattle.panel.specs.Calls.{after};
 ghost use Rattle.promise.specs.View.{code_of};

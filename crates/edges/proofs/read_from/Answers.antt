@@ -1,0 +1,12 @@
+use Rattle.std.proofs.Common.{ap, List, ◌∙◌}
+use Rattle.messages.specs.Area.{Area}
+use Rattle.refusals.specs.Refusals.Event.{read_from}
+use Rattle.edges.specs.Columns.{columns}
+use Rattle.edges.specs.declared.Message.{Message}
+use Rattle.edges.proofs.Pouring.{parcel-called}
+use Rattle.edges.proofs.read_from.Goals as goal
+
+pub returns : goal.returns
+returns c =
+    ap (λ (ms : List Message). record { outcome = c.pack_read_from-g.result.outcome; area = columns ms }) c.pour.ensures
+    ∙ parcel-called c.args.p (read_from c.args.j) c.args.area.now c.pack_read_from-g.result c.pack_read_from-g.ensures

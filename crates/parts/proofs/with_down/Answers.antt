@@ -1,0 +1,5 @@
+use borrow.Author.Rules.{rules}
+use Rattle.parts.proofs.with_down.Goals as goal
+
+pub returns : goal.returns
+returns c = simp c.down_too.ensures
