@@ -1,6 +1,7 @@
 // A network's tables carried as bytes, for a caller in another language: a panel as `carried` does it, and the channels and the
 // flags behind. Any bytes are taken: a byte past the end reads as 0, and is not written.
 #![tactic(auto)]
+
 ghost use Rattle.std.specs.Prelude.{◌≡◌, ℕ, ◌+◌, ◌*◌, ◌<◌, min, [], ◌∷◌};
 ghost use Rattle.std.proofs.lemmas.List.Edits.{sets};
 ghost use Rattle.basics.specs.Below.{one_if, list_below};

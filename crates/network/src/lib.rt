@@ -1,6 +1,7 @@
 // The network's steps: set-up, starts, deliveries, power loss and drain. Every public call takes any network and any numbers, and
 // tries 2 first. Nothing here knows how a panel does its work.
 #![tactic(auto)]
+
 ghost use Rattle.std.specs.Prelude.{◌≡◌, true, ℕ, ◌+◌};
 ghost use Rattle.basics.specs.Below.{list_below};
 ghost use Rattle.panel.specs.Calls.{made};

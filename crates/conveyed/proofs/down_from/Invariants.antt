@@ -1,0 +1,15 @@
+use Prim.Native.Nat.{ℕ, ◌+◌, ◌≤◌, ◌-◌}
+use borrow.Author.Rules.{rules}
+use lib.ListN.{drop}
+use mathlib.Core.{Bool.false, List.{◌++◌, append-nil}, Path.◌≡◌}
+use native.Mathlib.Omega.{arith}
+use Rattle.basics.specs.Below.{list_below}
+use Rattle.tables.proofs.Filling.{filled_none, filled_next}
+use Rattle.conveyed.specs.Networks.{flag_from}
+use Rattle.conveyed.proofs.down_from.Given as goal
+
+abbrev pub invariant-loop-i : goal.invariant-loop-i
+invariant-loop-i l = (l.i ≤ 7) × (l.down ≡ list_below l.i (λ (k : ℕ). flag_from l.bytes (10962 + k)) ++ drop l.i l.initial.down)
+
+abbrev pub decreases-loop-i : goal.decreases-loop-i
+decreases-loop-i l = 7 - l.i

@@ -1,0 +1,16 @@
+use Prim.Native.Nat.{ℕ, ◌*◌, ◌≤◌, ◌-◌}
+use borrow.Author.Rules.{rules}
+use lib.ListN.{drop}
+use mathlib.Core.{List.{◌++◌, append-nil}, Path.◌≡◌}
+use native.Mathlib.Omega.{arith}
+use Rattle.basics.specs.Below.{list_below}
+use Rattle.house.specs.Places.{nobody}
+use Rattle.tables.proofs.Filling.{filled_none, filled_next}
+use Rattle.conveyed.specs.Networks.{member_from}
+use Rattle.conveyed.proofs.members_from.Given as goal
+
+abbrev pub invariant-loop-i : goal.invariant-loop-i
+invariant-loop-i l = (l.i ≤ 7) × (l.panels ≡ list_below l.i (λ (k : ℕ). member_from l.bytes (1566 * k)) ++ drop l.i l.initial.panels)
+
+abbrev pub decreases-loop-i : goal.decreases-loop-i
+decreases-loop-i l = 7 - l.i

@@ -1,0 +1,19 @@
+use Prim.Native.Nat.{ℕ, ◌+◌, ◌*◌, ◌≤◌, ◌-◌}
+use borrow.Author.Rules.{rules}
+use lib.ListN.{drop}
+use mathlib.Core.{List.{◌++◌, append-nil}, Path.◌≡◌}
+use native.Mathlib.Omega.{arith}
+use Rattle.basics.specs.Below.{list_below}
+use Rattle.channels.specs.Channels.{no_row}
+use Rattle.tables.proofs.Filling.{filled_none, filled_next}
+use Rattle.conveyed.specs.Networks.{row_from}
+use Rattle.conveyed.proofs.rows_from.Goals as goal
+
+pub loop-i-init : goal.loop-i-init
+loop-i-init c = (search rules, filled_none _ _)
+
+pub loop-i-preserved : goal.loop-i-preserved
+loop-i-preserved c = let i = c.loop-i.invariant in (omega arith, simp (c.row_from.ensures, i.1) (filled_next _ no_row _ _ (omega arith)))
+
+pub returns : goal.returns
+returns c = let e : c.loop-i.i ≡ 7 = omega arith in simp (c.loop-i.invariant.1, e, append-nil)
