@@ -11,9 +11,9 @@ use Rattle.listing.specs.{Listing.{whole_text, listing_of, longest, Outcome, lis
 
 -- ---- which text
 
-pub too_long : (bytes : List ℕ) → 65536 < length bytes → listing_of bytes ≡ too_long
+pub too_long_lem : (bytes : List ℕ) → 65536 < length bytes → listing_of bytes ≡ too_long
 unfolding listing_of
-too_long bytes h = ite-true _ _ (lt-ltb _ _ h)
+too_long_lem bytes h = ite-true _ _ (lt-ltb _ _ h)
 
 pub not-too-long : (bytes : List ℕ) → length bytes ≤ 65536 → listing_of bytes ≡ whole_text bytes
 unfolding listing_of

@@ -1,5 +1,6 @@
 // The bench's listing: a schedule read record by record, each a call of the network, and a line for each into a lent area.
 #![tactic(auto)]
+
 mod records;
 
 ghost use Rattle.std.specs.Prelude.{◌≡◌, ◌+◌, ◌^◌, ◌≤◌, ◌<◌, length};

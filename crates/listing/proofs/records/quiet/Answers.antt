@@ -1,0 +1,5 @@
+use borrow.Author.Rules.{rules}
+use Rattle.listing.proofs.records.quiet.Goals as goal
+
+pub returns : goal.returns
+returns c = simp c.the_drain.ensures
