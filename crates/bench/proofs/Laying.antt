@@ -4,18 +4,22 @@ use Prim.Native.Nat.{ℕ, ◌≤◌}
 use mathlib.Core.{List.List, Path.{◌≡◌, sym, ap, subst, ◌∙◌}}
 use borrow.Author.Tests.{le-ltb}
 use native.Mathlib.Omega.{arith}
-use lib.{ListN.{length, take}, Seq.{sets, length-sets, sets-eq, take-append_seam}}
+use lib.{ListN.{length, take}, Seq.{sets, length-sets, length-take-le, sets-eq, take-append_seam}}
 use Rattle.basics.proofs.Choices.{ite-false}
-use Rattle.io.{proofs.Counting.counts, specs.Counts.Counts}
+use Rattle.bench.specs.Counts.{IsPrefixLen}
 use Rattle.listing.specs.Listing.{listing_of, longest, listing, Outcome}
 
+-- from a bound on a count to what the contracts and `&area[..n]` ask
+pub prefix_len_of_le : (n : ℕ) (xs : List ℕ) → n ≤ length xs → IsPrefixLen n xs
+prefix_len_of_le n xs h = (h, sym (length-take-le n xs h))
+
 abbrev Lays : List ℕ → Outcome → Type 0
-Lays bytes o = Counts o.answer.length o.area × (take o.answer.length o.area ≡ listing_of bytes)
+Lays bytes o = IsPrefixLen o.answer.length o.area × (take o.answer.length o.area ≡ listing_of bytes)
 
 -- a text that fits, stored at the front
-front : (text area : List ℕ) → length text ≤ length area → Counts (length text) (sets area 0 text) × (take (length text) (sets area 0 text) ≡ text)
+front : (text area : List ℕ) → length text ≤ length area → IsPrefixLen (length text) (sets area 0 text) × (take (length text) (sets area 0 text) ≡ text)
 front text area h = (
-  counts _ _ (omega (arith, length-sets area 0 text)),
+  prefix_len_of_le _ _ (omega (arith, length-sets area 0 text)),
   ap (take (length text)) (sets-eq text area 0 (omega (arith, h))) ∙ take-append_seam text _,
 )
 

@@ -1,11 +1,12 @@
 // The bench: a schedule on standard input, its listing on standard output. What could not be read or written is said on
 // standard error.
 #![tactic(auto)]
+
 ghost use Rattle.std.specs.Prelude.{◌≡◌, length, take};
-ghost use Rattle.io.specs.Counts.{IsPrefixLen};
+ghost use Rattle.bench.specs.Counts.{IsPrefixLen};
 ghost use Rattle.listing.specs.Listing.{listing_of};
 
-use libc::{STDERR_FILENO, STDIN_FILENO, STDOUT_FILENO};
+use std::io::{Read, Write};
 
 // One byte more than a schedule may have, so that a longer one is known.
 fn input_area() -> [u8; 65537]
@@ -29,23 +30,25 @@ struct Input {
 }
 
 // Reads until the area is full or the input ends, in chunks of any length; a read that fails is no end.
-fn read_input(area: &mut [u8]) -> Input
+fn read_input<R: Read>(from: &mut R, area: &mut [u8]) -> Input
     ensures { IsPrefixLen result.length area.new }
 {
     let mut done = 0;
     while done < area.len() {
-        let got = libc::read(STDIN_FILENO, &mut area[done..]);
-        if got < 0 {
-            return Input {
-                whole: false,
-                length: 0,
-            };
+        match from.read(&mut area[done..]) {
+            Err(_) => {
+                return Input {
+                    whole: false,
+                    length: 0,
+                };
+            }
+            Ok(more) => {
+                if more == 0 {
+                    break;
+                }
+                done += more;
+            }
         }
-        let more = io::count(got, &area[done..]);
-        if more == 0 {
-            break;
-        }
-        done += more;
     }
     Input {
         whole: true,
@@ -63,21 +66,25 @@ fn lay(schedule: &[u8], area: &mut [u8]) -> usize
     listed.length
 }
 
-fn print_listing(schedule: &[u8]) {
+fn print_listing(rt: HostRuntime, schedule: &[u8]) {
     let mut area = output_area();
     let length = lay(schedule, &mut area);
-    if !io::write_all(STDOUT_FILENO, &area[..length]) {
-        io::write_all(STDERR_FILENO, b"bench: standard output cannot be written\n");
+    if rt.stdout().write_all(&area[..length]).is_err() {
+        let _ = rt
+            .stderr()
+            .write_all(b"bench: standard output cannot be written\n");
     }
 }
 
-fn main() {
+fn main(rt: HostRuntime) {
     let mut area = input_area();
-    let input = read_input(&mut area);
+    let input = read_input(&mut rt.stdin(), &mut area);
     if !input.whole {
-        io::write_all(STDERR_FILENO, b"bench: standard input cannot be read\n");
+        let _ = rt
+            .stderr()
+            .write_all(b"bench: standard input cannot be read\n");
         return;
     }
     let length = input.length;
-    print_listing(&area[..length]);
+    print_listing(rt, &area[..length]);
 }

@@ -1,0 +1,12 @@
+use Prim.Native.Nat.{◌≤◌, ◌-◌}
+use borrow.Author.Rules.{rules}
+use lib.ListN.{length}
+use mathlib.Core.Path.{◌≡◌}
+use Rattle.bench.proofs.Laying.{prefix_len_of_le}
+use Rattle.bench.proofs.read_input.Given as goal
+
+abbrev pub invariant-loop-done : goal.invariant-loop-done
+invariant-loop-done g l = (l.done ≤ length l.area) × (length l.area ≡ length l.initial.area)
+
+abbrev pub decreases-loop-done : goal.decreases-loop-done
+decreases-loop-done g l = length l.initial.area - l.done
