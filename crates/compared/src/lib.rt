@@ -3,6 +3,7 @@
 // A panel's call takes the tables as bytes (`carried`), and leaves in `out` the next panel and, behind it, the answer. A network's
 // calls stand in networks.rt, the listing in listings.rt.
 #![tactic(auto)]
+
 mod listings;
 mod networks;
 

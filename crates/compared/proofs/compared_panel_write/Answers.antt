@@ -1,0 +1,6 @@
+use borrow.Author.Rules.{rules}
+use Rattle.compared.proofs.{Reporting.reporting}
+use Rattle.compared.proofs.compared_panel_write.Goals as goal
+
+pub returns : goal.returns
+returns c = reporting _ _ _ _ _ _ _ _ _ c.panel_of-p.ensures c.write-o.ensures c.put_outcome.ensures
