@@ -5,30 +5,14 @@ use compare::folders::{below_root, files};
 use second::listing::listing;
 use std::fs::{self, File};
 use std::io::Write;
-use std::path::{Path, PathBuf};
 use std::process::{Command, Output, Stdio};
 use std::thread;
 
-/// The program as `rt` runs it: under the kit's loader, and under its emulator where the machine is not
-/// x86-64.
+/// The program as `rt` builds it.
 fn bench() -> Command {
-    let program = below_root("target/bin/bench");
-    assert!(program.exists(), "no {}: run `rt check bench` first", program.display());
-    let guide = Command::new("rt").arg("doc").output().expect("the kit's `rt`").stdout;
-    let guide = PathBuf::from(String::from_utf8(guide).expect("a path").trim());
-    let kit = guide.parent().and_then(Path::parent).expect("the kit's folder");
-    let tools = kit.join("on").join(std::env::consts::ARCH).join("toolchain");
-    let (emulator, loader) =
-        (tools.join("bin/qemu-x86_64"), tools.join("lib/ld-linux-x86-64.so.2"));
-    let mut command = if emulator.exists() {
-        let mut command = Command::new(emulator);
-        command.arg(loader);
-        command
-    } else {
-        Command::new(loader)
-    };
-    command.arg("--library-path").arg(tools.join("lib")).arg(program);
-    command
+    let program = below_root("crates/bench/out/bench");
+    assert!(program.exists(), "no {}: run `rt run bench` first", program.display());
+    Command::new(program)
 }
 
 /// Fed through a pipe, a piece at a time. A schedule that is too long is not taken to its end.

@@ -16,7 +16,7 @@ const RULES: [&str; 5] = [
 ];
 
 /// The value of a number is no rule.
-const NO_RULES: [&str; 1] = ["valueOf"];
+const NO_RULES: [&str; 1] = ["value_of"];
 
 const ABOVE: [&str; 5] = ["house", "steps", "parts", "network", "runs"];
 
@@ -25,7 +25,7 @@ const ABOVE: [&str; 5] = ["house", "steps", "parts", "network", "runs"];
 fn rules_at_hand(text: &str) -> (BTreeSet<&str>, BTreeMap<&str, &str>) {
     let (mut names, mut modules) = (BTreeSet::new(), BTreeMap::new());
     for line in text.lines() {
-        let Some(rest) = line.strip_prefix("use Rattle·") else { continue };
+        let Some(rest) = line.strip_prefix("use Rattle.") else { continue };
         if let Some((module, list)) = rest.split_once(".{") {
             if RULES.contains(&module) {
                 names.extend(list.trim_end_matches('}').split(", "));
@@ -92,8 +92,8 @@ fn no_proof_above_the_promise_opens_a_rule_of_the_panel() {
 
 #[test]
 fn a_rule_that_is_opened_is_told() {
-    let text = "use Rattle·events.specs.Rules.{take, valueOf}\nuse Rattle·refusals.specs.Refusals as refusals\n\
-                unfolding take valueOf mine\nx = unfold refusals.stray other in y\n  unfolding\n    mine\n    refusals.trials\n  y = take\n";
+    let text = "use Rattle.events.specs.Rules.{take, value_of}\nuse Rattle.refusals.specs.Refusals as refusals\n\
+                unfolding take value_of mine\nx = unfold refusals.stray other in y\n  unfolding\n    mine\n    refusals.trials\n  y = take\n";
     assert_eq!(rules_opened(text), ["refusals.stray", "refusals.trials", "take"]);
 }
 

@@ -8,7 +8,7 @@ use std::path::PathBuf;
 fn library_sources() -> Vec<PathBuf> {
     let mut found = files("crates", "rt");
     found.retain(|file| {
-        !file.ends_with("main.rt") && !file.components().any(|part| part.as_os_str() == "target")
+        !file.ends_with("main.rt") && !file.components().any(|part| part.as_os_str() == "out")
     });
     found
 }

@@ -5,7 +5,7 @@ use mathlib.Core.{Bool.Bool, List.List, Path.{◌≡◌, refl, sym, ap, ◌∙�
 use Prim.Native.Nat.{ℕ}
 use seplogic.Ra.Ura.{Ura}
 use base.Logic.{SProp}
-use prog.{Memory.Memory, Routine.Routine, Wp.Heap}
+use prog.{Memory.Memory, Routine.Routine}
 use types.Logic.{Logic}
 use contract.{Lifetimes.Lfts, Monad.{Fun, fact}}
 use denote.MutBor.{MutBor}

@@ -1,8 +1,6 @@
 use Prim.Native.Nat.{◌≤◌, ◌-◌}
-use borrow.Author.Rules.{rules}
 use lib.ListN.{length}
 use mathlib.Core.Path.{◌≡◌}
-use Rattle.bench.proofs.Laying.{prefix_len_of_le}
 use Rattle.bench.proofs.read_input.Given as goal
 
 abbrev pub invariant-loop-done : goal.invariant-loop-done

@@ -1,11 +1,8 @@
 use Prim.Native.Nat.{ℕ, ◌≤◌, ◌-◌}
-use borrow.Author.Rules.{rules}
 use lib.ListN.{drop}
-use mathlib.Core.{List.{◌++◌, append-nil}, Path.◌≡◌}
-use native.Mathlib.Omega.{arith}
+use mathlib.Core.{List.{◌++◌}, Path.◌≡◌}
 use Rattle.basics.specs.Below.{list_below}
 use Rattle.codec.specs.Numbers.{number_at}
-use Rattle.tables.proofs.Filling.{filled_none, filled_next}
 use Rattle.carried.specs.Panels.{value_place}
 use Rattle.carried.proofs.history_from.Given as goal
 

@@ -1,11 +1,8 @@
-use Prim.Native.Nat.{ℕ, ◌+◌, ◌≤◌, ◌-◌}
 use borrow.Author.Rules.{rules}
-use lib.ListN.{drop}
-use mathlib.Core.{List.{◌++◌, append-nil}, Path.◌≡◌}
+use mathlib.Core.{List.{append-nil}, Path.◌≡◌}
 use native.Mathlib.Omega.{arith}
-use Rattle.basics.specs.Below.{list_below}
 use Rattle.tables.{proofs.Filling.{filled_none, filled_next}, specs.Places.no_write}
-use Rattle.carried.specs.Panels.{write_no_from, line_from}
+use Rattle.carried.specs.Panels.{line_from}
 use Rattle.carried.proofs.line_from.Goals as goal
 
 pub loop-k-init : goal.loop-k-init

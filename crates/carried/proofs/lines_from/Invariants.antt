@@ -1,10 +1,7 @@
 use Prim.Native.Nat.{ℕ, ◌+◌, ◌*◌, ◌≤◌, ◌-◌}
-use borrow.Author.Rules.{rules}
 use lib.ListN.{drop}
-use mathlib.Core.{List.{◌++◌, append-nil}, Path.◌≡◌}
-use native.Mathlib.Omega.{arith}
+use mathlib.Core.{List.{◌++◌}, Path.◌≡◌}
 use Rattle.basics.specs.Below.{list_below}
-use Rattle.tables.{proofs.Filling.{filled_none, filled_next}, specs.Places.no_line}
 use Rattle.carried.specs.Panels.{line_from}
 use Rattle.carried.proofs.lines_from.Given as goal
 

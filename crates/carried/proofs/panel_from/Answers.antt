@@ -1,4 +1,3 @@
-use borrow.Author.Rules.{rules}
 use Rattle.carried.specs.Panels.{panel_from}
 use Rattle.carried.proofs.panel_from.Goals as goal
 

@@ -1,4 +1,3 @@
-use borrow.Author.Rules.{rules}
 use mathlib.Core.Path.{refl}
 use Rattle.carried.proofs.Lengths.{length-head, length-w, length-r, length-held, length-lines, length-operation}
 use Rattle.carried.proofs.{Rows.{laid_then, laid-whole}}

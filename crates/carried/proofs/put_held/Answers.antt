@@ -1,9 +1,7 @@
-use Prim.Native.Nat.{ℕ, ◌≤◌, ◌-◌}
 use borrow.Author.Rules.{rules}
 use native.Mathlib.Omega.{arith}
-use Rattle.tables.specs.Places.{hold_at}
 use Rattle.carried.proofs.{Lengths.length-hold, Rows.{laid-length, rows_start, rows-turn, rows_end}}
-use Rattle.carried.specs.{Laid.Laid, Panels.{rows_below, hold_bytes, held_bytes}}
+use Rattle.carried.specs.{Panels.{held_bytes}}
 use Rattle.carried.proofs.put_held.Goals as goal
 
 pub loop-j-init : goal.loop-j-init

@@ -1,5 +1,4 @@
 use Prim.Native.Nat.{ℕ}
-use borrow.Author.Rules.{rules}
 use mathlib.Core.{List.{[], ◌∷◌}, Path.{refl, ap}}
 use Rattle.carried.proofs.{Rows.{laid-byte, laid_then, laid_as}}
 use Rattle.carried.specs.Panels.{hold_bytes}

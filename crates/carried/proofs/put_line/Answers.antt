@@ -1,11 +1,9 @@
-use Prim.Native.Nat.{ℕ, ◌+◌, ◌≤◌, ◌-◌}
 use borrow.Author.Rules.{rules}
 use lib.ListN.{length, length-set}
-use mathlib.Core.{List.{[], ◌∷◌}, Path.{ap, refl, ◌∙◌}}
+use mathlib.Core.{Path.{ap, refl, ◌∙◌}}
 use native.Mathlib.Omega.{arith}
-use Rattle.tables.specs.Places.{w_at}
 use Rattle.carried.proofs.{Rows.{laid-byte, laid_then, laid-length, rows_start, rows-turn, rows_end}}
-use Rattle.carried.specs.{Laid.Laid, Panels.{rows_below, line_bytes}}
+use Rattle.carried.specs.{Panels.{line_bytes}}
 use Rattle.carried.proofs.put_line.Goals as goal
 
 pub loop-k-init : goal.loop-k-init

@@ -1,11 +1,7 @@
 use Prim.Native.Nat.{ℕ, ◌+◌, ◌≤◌, ◌-◌}
-use borrow.Author.Rules.{rules}
-use lib.ListN.{length, length-set}
-use mathlib.Core.{List.{[], ◌∷◌}, Path.{ap, refl, ◌∙◌}}
-use native.Mathlib.Omega.{arith}
+use mathlib.Core.{List.{[], ◌∷◌}}
 use Rattle.tables.specs.Places.{w_at}
-use Rattle.carried.proofs.{Rows.{laid-byte, laid_then, laid-length, rows_start, rows-turn, rows_end}}
-use Rattle.carried.specs.{Laid.Laid, Panels.{rows_below, line_bytes}}
+use Rattle.carried.specs.{Laid.Laid, Panels.{rows_below}}
 use Rattle.carried.proofs.put_line.Given as goal
 
 abbrev pub invariant-loop-k : goal.invariant-loop-k

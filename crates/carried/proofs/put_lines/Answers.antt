@@ -1,9 +1,7 @@
-use Prim.Native.Nat.{ℕ, ◌≤◌, ◌-◌}
 use borrow.Author.Rules.{rules}
 use native.Mathlib.Omega.{arith}
-use Rattle.tables.specs.Places.{line_at}
 use Rattle.carried.proofs.{Lengths.length-line, Rows.{laid-length, rows_start, rows-turn, rows_end}}
-use Rattle.carried.specs.{Laid.Laid, Panels.{rows_below, line_bytes, lines_bytes}}
+use Rattle.carried.specs.{Panels.{lines_bytes}}
 use Rattle.carried.proofs.put_lines.Goals as goal
 
 pub loop-j-init : goal.loop-j-init

@@ -1,4 +1,3 @@
-use borrow.Author.Rules.{rules}
 use mathlib.Core.Path.{sym, ap}
 use Rattle.carried.proofs.{Rows.{laid_as, laid-length}}
 use Rattle.carried.specs.Panels.{operation_bytes}

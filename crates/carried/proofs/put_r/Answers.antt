@@ -1,10 +1,8 @@
-use Prim.Native.Nat.{ℕ, ◌≤◌, ◌-◌}
 use borrow.Author.Rules.{rules}
-use mathlib.Core.{List.{[], ◌∷◌}, Path.refl}
+use mathlib.Core.{Path.refl}
 use native.Mathlib.Omega.{arith}
-use Rattle.tables.specs.Places.{r_at}
 use Rattle.carried.proofs.{Rows.{laid-byte, laid-length, rows_start, rows-turn, rows_end}}
-use Rattle.carried.specs.{Laid.Laid, Panels.{rows_below, r_bytes}}
+use Rattle.carried.specs.{Panels.{r_bytes}}
 use Rattle.carried.proofs.put_r.Goals as goal
 
 pub loop-j-init : goal.loop-j-init

@@ -1,10 +1,7 @@
 use Prim.Native.Nat.{ℕ, ◌≤◌, ◌-◌}
-use borrow.Author.Rules.{rules}
-use mathlib.Core.{List.{[], ◌∷◌}, Path.refl}
-use native.Mathlib.Omega.{arith}
+use mathlib.Core.{List.{[], ◌∷◌}}
 use Rattle.tables.specs.Places.{r_at}
-use Rattle.carried.proofs.{Rows.{laid-byte, laid-length, rows_start, rows-turn, rows_end}}
-use Rattle.carried.specs.{Laid.Laid, Panels.{rows_below, r_bytes}}
+use Rattle.carried.specs.{Laid.Laid, Panels.{rows_below}}
 use Rattle.carried.proofs.put_r.Given as goal
 
 abbrev pub invariant-loop-j : goal.invariant-loop-j

@@ -1,4 +1,3 @@
-use borrow.Author.Rules.{rules}
 use mathlib.Core.Path.{refl}
 use Rattle.carried.proofs.{Rows.{laid-byte, laid_then}}
 use Rattle.carried.proofs.put_two.Goals as goal

@@ -1,10 +1,8 @@
-use Prim.Native.Nat.{ℕ, ◌+◌, ◌≤◌, ◌-◌}
 use borrow.Author.Rules.{rules}
-use lib.ListN.{get_or}
 use native.Mathlib.Omega.{arith}
-use Rattle.codec.{proofs.Numbers.length-bytes_of, specs.Numbers.bytes_of}
+use Rattle.codec.{proofs.Numbers.length-bytes_of}
 use Rattle.carried.proofs.{Rows.{laid-length, rows_start, rows-turn, rows_end}}
-use Rattle.carried.specs.{Laid.Laid, Panels.{rows_below, values_bytes}}
+use Rattle.carried.specs.{Panels.{values_bytes}}
 use Rattle.carried.proofs.put_values.Goals as goal
 
 pub loop-k-init : goal.loop-k-init

@@ -1,10 +1,7 @@
 use Prim.Native.Nat.{ℕ, ◌+◌, ◌≤◌, ◌-◌}
-use borrow.Author.Rules.{rules}
 use lib.ListN.{get_or}
-use native.Mathlib.Omega.{arith}
-use Rattle.codec.{proofs.Numbers.length-bytes_of, specs.Numbers.bytes_of}
-use Rattle.carried.proofs.{Rows.{laid-length, rows_start, rows-turn, rows_end}}
-use Rattle.carried.specs.{Laid.Laid, Panels.{rows_below, values_bytes}}
+use Rattle.codec.{specs.Numbers.bytes_of}
+use Rattle.carried.specs.{Laid.Laid, Panels.{rows_below}}
 use Rattle.carried.proofs.put_values.Given as goal
 
 abbrev pub invariant-loop-k : goal.invariant-loop-k

@@ -1,10 +1,8 @@
-use Prim.Native.Nat.{ℕ, ◌≤◌, ◌-◌}
 use borrow.Author.Rules.{rules}
-use mathlib.Core.{List.{[], ◌∷◌}, Path.refl}
+use mathlib.Core.{Path.refl}
 use native.Mathlib.Omega.{arith}
-use Rattle.tables.specs.Places.{w_at}
 use Rattle.carried.proofs.{Rows.{rows_end, laid-byte, laid-length, rows_start, rows-turn}}
-use Rattle.carried.specs.{Laid.Laid, Panels.{rows_below, w_bytes}}
+use Rattle.carried.specs.{Panels.{w_bytes}}
 use Rattle.carried.proofs.put_w.Goals as goal
 
 pub loop-j-init : goal.loop-j-init

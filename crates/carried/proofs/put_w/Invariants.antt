@@ -1,10 +1,7 @@
 use Prim.Native.Nat.{ℕ, ◌≤◌, ◌-◌}
-use borrow.Author.Rules.{rules}
-use mathlib.Core.{List.{[], ◌∷◌}, Path.refl}
-use native.Mathlib.Omega.{arith}
+use mathlib.Core.{List.{[], ◌∷◌}}
 use Rattle.tables.specs.Places.{w_at}
-use Rattle.carried.proofs.{Rows.{rows_end, laid-byte, laid-length, rows_start, rows-turn}}
-use Rattle.carried.specs.{Laid.Laid, Panels.{rows_below, w_bytes}}
+use Rattle.carried.specs.{Laid.Laid, Panels.{rows_below}}
 use Rattle.carried.proofs.put_w.Given as goal
 
 abbrev pub invariant-loop-j : goal.invariant-loop-j

@@ -1,11 +1,7 @@
-use Prim.Native.Nat.{ℕ, ◌+◌, ◌≤◌, ◌-◌}
 use borrow.Author.Rules.{rules}
-use lib.ListN.{drop}
-use mathlib.Core.{List.{◌++◌, append-nil}, Path.◌≡◌}
+use mathlib.Core.{List.{append-nil}, Path.◌≡◌}
 use native.Mathlib.Omega.{arith}
-use Rattle.basics.specs.Below.{list_below}
 use Rattle.tables.{proofs.Filling.{filled_none, filled_next}, specs.Places.no_read}
-use Rattle.carried.specs.Panels.{read_no_from}
 use Rattle.carried.proofs.r_from.Goals as goal
 
 pub loop-j-init : goal.loop-j-init

@@ -1,4 +1,4 @@
-use borrow.Author.{Rules.rules, Tests.{eq-eqb, ne_eqb}}
+use borrow.Author.{Tests.{eq-eqb, ne_eqb}}
 use mathlib.Core.Path.{sym}
 use Rattle.basics.proofs.Choices.{ite-true, ite-false}
 use Rattle.carried.specs.Panels.{value_place}

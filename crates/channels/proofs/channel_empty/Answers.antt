@@ -1,4 +1,3 @@
-use borrow.Author.Rules.{rules}
 use Rattle.channels.specs.Channels.{channel_empty}
 use Rattle.channels.proofs.channel_empty.Goals as goal
 

@@ -1,4 +1,3 @@
-use borrow.Author.Rules.{rules}
 use Rattle.channels.specs.Channels.{channel_ok}
 use Rattle.channels.proofs.channel_ok.Goals as goal
 

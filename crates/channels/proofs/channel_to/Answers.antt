@@ -1,5 +1,3 @@
-use borrow.Author.Rules.{rules}
-use lib.ListN.{length-map}
 use mathlib.Core.Path.{sym, ◌∙◌}
 use Rattle.channels.proofs.{Rows.channel-past}
 use Rattle.channels.proofs.channel_to.Goals as goal

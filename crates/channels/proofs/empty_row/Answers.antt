@@ -1,4 +1,3 @@
-use borrow.Author.Rules.{rules}
 use lib.ListN.{replicate}
 use mathlib.Core.Path.{ap}
 use Rattle.channels.specs.{Channels.empty_row, declared.Channel.Channel}

@@ -1,4 +1,3 @@
-use borrow.Author.{Rules.rules, Tests.{not-true, not-false}}
 use mathlib.Core.Path.{◌≡◌, sym, ◌∙◌}
 use native.Mathlib.Omega.{arith}
 use Rattle.basics.proofs.Choices.{ite-true, ite-false}

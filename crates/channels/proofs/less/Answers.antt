@@ -1,4 +1,3 @@
-use borrow.Author.Rules.{rules}
 use mathlib.Core.Path.{sym, ap, ◌∙◌}
 use native.Mathlib.Omega.{arith}
 use Rattle.channels.proofs.{ByKind.{at-write0, at-write1, at_read, at-proceed, at_other}}

@@ -1,4 +1,3 @@
-use borrow.Author.Rules.{rules}
 use Rattle.messages.specs.Sends.{messages_of}
 use Rattle.channels.proofs.{Posting.posts-append}
 use Rattle.channels.specs.Posting.{posted_all}

@@ -1,10 +1,8 @@
-use Prim.Native.Nat.{◌≤◌, ◌-◌}
 use borrow.Author.Rules.{rules}
 use mathlib.Core.Path.{◌≡◌, ◌∙◌}
 use native.Mathlib.Omega.{arith}
-use Rattle.messages.{proofs.Messages.{below_none, below_next}, specs.Sends.{cast_below, cast_of}}
+use Rattle.messages.{proofs.Messages.{below_none, below_next}, specs.Sends.{cast_of}}
 use Rattle.channels.proofs.{Posting.{posts-none, posts-append}}
-use Rattle.channels.specs.Posting.{posts}
 use Rattle.channels.proofs.post_cast.Goals as goal
 
 pub loop-j-init : goal.loop-j-init

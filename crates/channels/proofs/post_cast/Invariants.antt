@@ -1,9 +1,6 @@
 use Prim.Native.Nat.{◌≤◌, ◌-◌}
-use borrow.Author.Rules.{rules}
-use mathlib.Core.Path.{◌≡◌, ◌∙◌}
-use native.Mathlib.Omega.{arith}
-use Rattle.messages.{proofs.Messages.{below_none, below_next}, specs.Sends.{cast_below, cast_of}}
-use Rattle.channels.proofs.{Posting.{posts-none, posts-append}}
+use mathlib.Core.Path.{◌≡◌}
+use Rattle.messages.{specs.Sends.{cast_below}}
 use Rattle.channels.specs.Posting.{posts}
 use Rattle.channels.proofs.post_cast.Given as goal
 

@@ -1,4 +1,3 @@
-use borrow.Author.Rules.{rules}
 use mathlib.Core.{List.List, Path.{sym, ap, ◌∙◌}}
 use Rattle.basics.proofs.Choices.{ite-true, ite-false}
 use Rattle.messages.specs.Sends.{Message}

@@ -1,4 +1,4 @@
-use borrow.Author.{Rules.rules, Tests.{not-true, not-false, leb-true}}
+use borrow.Author.{Tests.{not-true, not-false, leb-true}}
 use mathlib.Core.Path.{sym, ◌∙◌}
 use native.Mathlib.Omega.{arith}
 use Rattle.basics.proofs.Choices.{both_left}

@@ -1,10 +1,8 @@
-use Prim.Native.Nat.{◌≤◌, ◌-◌}
 use borrow.Author.Rules.{rules}
 use mathlib.Core.Path.{◌≡◌, ◌∙◌}
 use native.Mathlib.Omega.{arith}
-use Rattle.messages.{proofs.Messages.{proceeds-none, proceeds-next}, specs.Sends.proceeds_to}
+use Rattle.messages.{proofs.Messages.{proceeds-none, proceeds-next}}
 use Rattle.channels.proofs.{Posting.{posts-none, posts-one, posts-append}}
-use Rattle.channels.specs.Posting.{posts}
 use Rattle.channels.proofs.post_proceeds.Goals as goal
 
 pub loop-i-init : goal.loop-i-init

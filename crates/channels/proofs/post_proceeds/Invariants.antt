@@ -1,9 +1,6 @@
 use Prim.Native.Nat.{◌≤◌, ◌-◌}
-use borrow.Author.Rules.{rules}
-use mathlib.Core.Path.{◌≡◌, ◌∙◌}
-use native.Mathlib.Omega.{arith}
-use Rattle.messages.{proofs.Messages.{proceeds-none, proceeds-next}, specs.Sends.proceeds_to}
-use Rattle.channels.proofs.{Posting.{posts-none, posts-one, posts-append}}
+use mathlib.Core.Path.{◌≡◌}
+use Rattle.messages.{specs.Sends.proceeds_to}
 use Rattle.channels.specs.Posting.{posts}
 use Rattle.channels.proofs.post_proceeds.Given as goal
 

@@ -1,9 +1,7 @@
 use Prim.Native.Nat.{◌≤◌, ◌-◌}
-use borrow.Author.Rules.{rules}
-use mathlib.Core.Path.{◌≡◌, refl}
-use native.Mathlib.Omega.{arith}
-use Rattle.basics.{proofs.Below.all-next, specs.Below.all_below}
-use Rattle.channels.specs.Channels.{leads, row_place_ok, row_ok}
+use mathlib.Core.Path.{◌≡◌}
+use Rattle.basics.{specs.Below.all_below}
+use Rattle.channels.specs.Channels.{row_place_ok}
 use Rattle.channels.proofs.row_ok.Given as goal
 
 abbrev pub invariant-loop-j : goal.invariant-loop-j

@@ -1,4 +1,3 @@
-use borrow.Author.Rules.{rules}
 use Rattle.channels.specs.Channels.{slot_ok}
 use Rattle.channels.proofs.slot_ok.Goals as goal
 

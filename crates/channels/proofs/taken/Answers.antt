@@ -1,4 +1,3 @@
-use borrow.Author.Rules.{rules}
 use Rattle.channels.specs.Posting.{taken}
 use Rattle.channels.proofs.taken.Goals as goal
 

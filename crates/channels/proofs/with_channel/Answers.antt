@@ -1,6 +1,4 @@
-use borrow.Author.Rules.{rules}
-use lib.ListN.{length-map}
-use mathlib.Core.Path.{refl, sym, ◌∙◌}
+use mathlib.Core.Path.{refl, sym}
 use Rattle.channels.proofs.{Rows.put-past}
 use Rattle.channels.specs.Posting.{with_channel}
 use Rattle.channels.proofs.with_channel.Goals as goal

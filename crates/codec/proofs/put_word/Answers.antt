@@ -1,4 +1,3 @@
-use borrow.Author.Rules.{rules}
 use mathlib.Core.Path.{sym}
 use Rattle.basics.proofs.Lists.{sets-past}
 use Rattle.codec.proofs.{Words.bytes-of-word}

@@ -1,4 +1,3 @@
-use borrow.Author.Rules.{rules}
 use mathlib.Core.Path.{sym}
 use Rattle.codec.proofs.{Words.{number_at-past, word-by-bytes}}
 use Rattle.codec.proofs.word_at.Goals as goal

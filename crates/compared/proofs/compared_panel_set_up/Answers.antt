@@ -1,4 +1,3 @@
-use borrow.Author.Rules.{rules}
 use Rattle.compared.proofs.{Reporting.set-up-reported}
 use Rattle.compared.proofs.compared_panel_set_up.Goals as goal
 

@@ -1,4 +1,3 @@
-use borrow.Author.Rules.{rules}
 use Rattle.compared.proofs.{Reporting.reporting}
 use Rattle.compared.proofs.compared_panel_write_from.Goals as goal
 

@@ -1,4 +1,3 @@
-use borrow.Author.Rules.{rules}
 use mathlib.Core.Path.{sym, ap, ◌∙◌}
 use Rattle.compared.specs.Told.{read_kind}
 use Rattle.compared.proofs.compared_read_kind.Goals as goal

@@ -1,4 +1,3 @@
-use borrow.Author.Rules.{rules}
 use mathlib.Core.Path.{sym, ap, ◌∙◌}
 use Rattle.compared.specs.Told.{read_value}
 use Rattle.compared.proofs.compared_read_value.Goals as goal

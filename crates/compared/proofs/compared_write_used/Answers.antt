@@ -1,4 +1,3 @@
-use borrow.Author.Rules.{rules}
 use mathlib.Core.Path.{sym, ap, ◌∙◌}
 use Rattle.wire.specs.Messages.{Written}
 use Rattle.compared.specs.Told.{write_used}

@@ -1,4 +1,3 @@
-use borrow.Author.Rules.{rules}
 use mathlib.Core.Path.{ap}
 use Rattle.panel.specs.Calls.{panel_of}
 use Rattle.compared.proofs.panel_of.Goals as goal

@@ -1,4 +1,3 @@
-use borrow.Author.Rules.{rules}
 use mathlib.Core.Path.{refl}
 use Rattle.compared.proofs.{Reporting.panel-then}
 use Rattle.compared.specs.Reported.{outcome_bytes}

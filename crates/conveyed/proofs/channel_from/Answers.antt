@@ -1,4 +1,3 @@
-use borrow.Author.Rules.{rules}
 use Rattle.conveyed.specs.Networks.{channel_from}
 use Rattle.conveyed.proofs.channel_from.Goals as goal
 

@@ -1,11 +1,7 @@
-use Prim.Native.Nat.{ℕ, ◌+◌, ◌≤◌, ◌-◌}
 use borrow.Author.Rules.{rules}
-use lib.ListN.{drop}
-use mathlib.Core.{Bool.false, List.{◌++◌, append-nil}, Path.◌≡◌}
+use mathlib.Core.{Bool.false, List.{append-nil}, Path.◌≡◌}
 use native.Mathlib.Omega.{arith}
-use Rattle.basics.specs.Below.{list_below}
 use Rattle.tables.proofs.Filling.{filled_none, filled_next}
-use Rattle.conveyed.specs.Networks.{flag_from}
 use Rattle.conveyed.proofs.down_from.Goals as goal
 
 pub loop-i-init : goal.loop-i-init

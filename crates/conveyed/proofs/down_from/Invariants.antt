@@ -1,10 +1,7 @@
 use Prim.Native.Nat.{ℕ, ◌+◌, ◌≤◌, ◌-◌}
-use borrow.Author.Rules.{rules}
 use lib.ListN.{drop}
-use mathlib.Core.{Bool.false, List.{◌++◌, append-nil}, Path.◌≡◌}
-use native.Mathlib.Omega.{arith}
+use mathlib.Core.{List.{◌++◌}, Path.◌≡◌}
 use Rattle.basics.specs.Below.{list_below}
-use Rattle.tables.proofs.Filling.{filled_none, filled_next}
 use Rattle.conveyed.specs.Networks.{flag_from}
 use Rattle.conveyed.proofs.down_from.Given as goal
 

@@ -1,4 +1,3 @@
-use borrow.Author.Rules.{rules}
 use Rattle.conveyed.specs.Networks.{flag_from}
 use Rattle.conveyed.proofs.flag_from.Goals as goal
 

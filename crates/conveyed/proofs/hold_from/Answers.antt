@@ -1,4 +1,3 @@
-use borrow.Author.Rules.{rules}
 use Rattle.carried.specs.Panels.{hold_from}
 use Rattle.conveyed.proofs.hold_from.Goals as goal
 

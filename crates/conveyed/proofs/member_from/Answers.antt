@@ -1,4 +1,3 @@
-use borrow.Author.Rules.{rules}
 use mathlib.Core.Path.{ap, ◌∙◌}
 use Rattle.carried.specs.Panels.{panel_from}
 use Rattle.panel.specs.Calls.{panel_of}

@@ -1,4 +1,3 @@
-use borrow.Author.Rules.{rules}
 use Rattle.conveyed.specs.Networks.{network_from}
 use Rattle.conveyed.proofs.network_from.Goals as goal
 

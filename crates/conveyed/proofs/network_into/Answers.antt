@@ -1,4 +1,3 @@
-use borrow.Author.Rules.{rules}
 use mathlib.Core.Path.{refl}
 use Rattle.carried.proofs.Rows.{laid_then, laid-whole}
 use Rattle.conveyed.proofs.{Lengths.{length-members, length-down}}

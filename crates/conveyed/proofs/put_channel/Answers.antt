@@ -1,4 +1,3 @@
-use borrow.Author.Rules.{rules}
 use mathlib.Core.Path.{refl}
 use native.Mathlib.Omega.{arith}
 use Rattle.carried.proofs.{Lengths.length-hold, Rows.{laid-byte, laid_then}}

@@ -1,10 +1,7 @@
-use Prim.Native.Nat.{ℕ, ◌≤◌, ◌-◌}
 use borrow.Author.Rules.{rules}
-use lib.ListN.{get_or}
-use mathlib.Core.{Bool.false, List.{[], ◌∷◌}, Path.refl}
+use mathlib.Core.{Path.refl}
 use native.Mathlib.Omega.{arith}
-use Rattle.basics.specs.Below.{one_if}
-use Rattle.carried.{proofs.Rows.{laid-length, rows_start, rows-turn, rows_end}, specs.Laid.Laid, specs.Panels.rows_below}
+use Rattle.carried.{proofs.Rows.{laid-length, rows_start, rows-turn, rows_end}}
 use Rattle.conveyed.specs.Networks.{down_bytes}
 use Rattle.conveyed.proofs.put_down.Goals as goal
 

@@ -1,11 +1,8 @@
 use Prim.Native.Nat.{ℕ, ◌≤◌, ◌-◌}
-use borrow.Author.Rules.{rules}
 use lib.ListN.{get_or}
-use mathlib.Core.{Bool.false, List.{[], ◌∷◌}, Path.refl}
-use native.Mathlib.Omega.{arith}
+use mathlib.Core.{Bool.false, List.{[], ◌∷◌}}
 use Rattle.basics.specs.Below.{one_if}
-use Rattle.carried.{proofs.Rows.{laid-length, rows_start, rows-turn, rows_end}, specs.Laid.Laid, specs.Panels.rows_below}
-use Rattle.conveyed.specs.Networks.{down_bytes}
+use Rattle.carried.{specs.Laid.Laid, specs.Panels.rows_below}
 use Rattle.conveyed.proofs.put_down.Given as goal
 
 abbrev pub invariant-loop-i : goal.invariant-loop-i

@@ -1,5 +1,4 @@
 use Prim.Native.Nat.{ℕ}
-use borrow.Author.Rules.{rules}
 use mathlib.Core.{List.{[], ◌∷◌}, Path.ap}
 use Rattle.carried.proofs.Rows.{laid-byte, laid_as}
 use Rattle.conveyed.proofs.put_flag.Goals as goal

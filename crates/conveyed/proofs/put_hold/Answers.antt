@@ -1,4 +1,3 @@
-use borrow.Author.Rules.{rules}
 use mathlib.Core.Path.{refl}
 use Rattle.carried.{proofs.Rows.laid_then, specs.Panels.hold_bytes}
 use Rattle.conveyed.proofs.put_hold.Goals as goal

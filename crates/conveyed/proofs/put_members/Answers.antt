@@ -1,10 +1,6 @@
-use Prim.Native.Nat.{ℕ, ◌≤◌, ◌-◌}
 use borrow.Author.Rules.{rules}
-use lib.ListN.{get_or}
 use native.Mathlib.Omega.{arith}
-use Rattle.carried.{proofs.Lengths.length-panel, proofs.Rows.{laid-length, rows_start, rows-turn, rows_end}, specs.Laid.Laid}
-use Rattle.carried.specs.Panels.{rows_below, panel_bytes}
-use Rattle.house.specs.Places.{nobody}
+use Rattle.carried.{proofs.Lengths.length-panel, proofs.Rows.{laid-length, rows_start, rows-turn, rows_end}}
 use Rattle.conveyed.specs.Networks.{members_bytes}
 use Rattle.conveyed.proofs.put_members.Goals as goal
 

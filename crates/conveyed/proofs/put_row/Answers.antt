@@ -1,10 +1,8 @@
-use Prim.Native.Nat.{ℕ, ◌≤◌, ◌-◌}
 use borrow.Author.Rules.{rules}
 use native.Mathlib.Omega.{arith}
-use Rattle.carried.{proofs.Rows.{laid-length, rows_start, rows-turn, rows_end}, specs.Laid.Laid, specs.Panels.rows_below}
-use Rattle.channels.specs.Channels.{channel_at}
+use Rattle.carried.{proofs.Rows.{laid-length, rows_start, rows-turn, rows_end}}
 use Rattle.conveyed.proofs.{Lengths.length-channel}
-use Rattle.conveyed.specs.Networks.{channel_bytes, row_bytes}
+use Rattle.conveyed.specs.Networks.{row_bytes}
 use Rattle.conveyed.proofs.put_row.Goals as goal
 
 pub loop-j-init : goal.loop-j-init

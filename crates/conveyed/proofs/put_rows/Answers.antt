@@ -1,11 +1,8 @@
-use Prim.Native.Nat.{ℕ, ◌≤◌, ◌-◌}
 use borrow.Author.Rules.{rules}
-use lib.ListN.{get_or}
 use native.Mathlib.Omega.{arith}
-use Rattle.carried.{proofs.Rows.{laid-length, rows_start, rows-turn, rows_end}, specs.Laid.Laid, specs.Panels.rows_below}
-use Rattle.channels.specs.Channels.{no_row}
+use Rattle.carried.{proofs.Rows.{laid-length, rows_start, rows-turn, rows_end}}
 use Rattle.conveyed.proofs.{Lengths.length-row}
-use Rattle.conveyed.specs.Networks.{row_bytes, rows_bytes}
+use Rattle.conveyed.specs.Networks.{rows_bytes}
 use Rattle.conveyed.proofs.put_rows.Goals as goal
 
 pub loop-i-init : goal.loop-i-init

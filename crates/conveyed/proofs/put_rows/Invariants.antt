@@ -1,11 +1,8 @@
 use Prim.Native.Nat.{ℕ, ◌≤◌, ◌-◌}
-use borrow.Author.Rules.{rules}
 use lib.ListN.{get_or}
-use native.Mathlib.Omega.{arith}
-use Rattle.carried.{proofs.Rows.{laid-length, rows_start, rows-turn, rows_end}, specs.Laid.Laid, specs.Panels.rows_below}
+use Rattle.carried.{specs.Laid.Laid, specs.Panels.rows_below}
 use Rattle.channels.specs.Channels.{no_row}
-use Rattle.conveyed.proofs.{Lengths.length-row}
-use Rattle.conveyed.specs.Networks.{row_bytes, rows_bytes}
+use Rattle.conveyed.specs.Networks.{row_bytes}
 use Rattle.conveyed.proofs.put_rows.Given as goal
 
 abbrev pub invariant-loop-i : goal.invariant-loop-i

@@ -1,12 +1,9 @@
-use Prim.Native.Nat.{ℕ, ◌+◌, ◌*◌, ◌≤◌, ◌-◌}
 use borrow.Author.Rules.{rules}
-use lib.ListN.{drop}
-use mathlib.Core.{List.{◌++◌, append-nil}, Path.◌≡◌}
+use mathlib.Core.{List.{append-nil}, Path.◌≡◌}
 use native.Mathlib.Omega.{arith}
-use Rattle.basics.specs.Below.{list_below}
 use Rattle.channels.specs.Channels.{no_channel}
 use Rattle.tables.proofs.Filling.{filled_none, filled_next}
-use Rattle.conveyed.specs.Networks.{channel_from, row_from}
+use Rattle.conveyed.specs.Networks.{row_from}
 use Rattle.conveyed.proofs.row_from.Goals as goal
 
 pub loop-j-init : goal.loop-j-init

@@ -1,12 +1,8 @@
-use Prim.Native.Nat.{ℕ, ◌+◌, ◌*◌, ◌≤◌, ◌-◌}
 use borrow.Author.Rules.{rules}
-use lib.ListN.{drop}
-use mathlib.Core.{List.{◌++◌, append-nil}, Path.◌≡◌}
+use mathlib.Core.{List.{append-nil}, Path.◌≡◌}
 use native.Mathlib.Omega.{arith}
-use Rattle.basics.specs.Below.{list_below}
 use Rattle.channels.specs.Channels.{no_row}
 use Rattle.tables.proofs.Filling.{filled_none, filled_next}
-use Rattle.conveyed.specs.Networks.{row_from}
 use Rattle.conveyed.proofs.rows_from.Goals as goal
 
 pub loop-i-init : goal.loop-i-init

@@ -1,11 +1,7 @@
 use Prim.Native.Nat.{ℕ, ◌+◌, ◌*◌, ◌≤◌, ◌-◌}
-use borrow.Author.Rules.{rules}
 use lib.ListN.{drop}
-use mathlib.Core.{List.{◌++◌, append-nil}, Path.◌≡◌}
-use native.Mathlib.Omega.{arith}
+use mathlib.Core.{List.{◌++◌}, Path.◌≡◌}
 use Rattle.basics.specs.Below.{list_below}
-use Rattle.channels.specs.Channels.{no_row}
-use Rattle.tables.proofs.Filling.{filled_none, filled_next}
 use Rattle.conveyed.specs.Networks.{row_from}
 use Rattle.conveyed.proofs.rows_from.Given as goal
 

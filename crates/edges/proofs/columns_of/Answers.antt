@@ -1,4 +1,3 @@
-use borrow.Author.Rules.{rules}
 use native.Mathlib.Omega.{arith}
 use Rattle.edges.specs.Columns.{blank}
 use Rattle.edges.proofs.{Pouring.columns-laid}

@@ -1,4 +1,3 @@
-use borrow.Author.Rules.{rules}
 use Rattle.edges.proofs.{Pouring.pack-fits}
 use Rattle.edges.proofs.pack.Goals as goal
 

@@ -1,4 +1,3 @@
-use borrow.Author.Rules.{rules}
 use Rattle.edges.proofs.{Pouring.fits-as}
 use Rattle.edges.proofs.pack_write.Goals as goal
 

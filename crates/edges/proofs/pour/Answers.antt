@@ -1,4 +1,4 @@
-use Rattle.std.proofs.Common.{◌≡◌, ℕ, ◌-◌, ◌<◌, ◌≤◌, List, length, length-set, set, ap, sym, ◌∙◌, refl, arith, suc, zero}
+use Rattle.std.proofs.Common.{◌≡◌, ℕ, ◌-◌, ◌<◌, ◌≤◌, List, length-set, set, ap, ◌∙◌, refl, arith, suc, zero}
 use Rattle.edges.specs.Columns.{poured, message_at}
 use Rattle.edges.specs.declared.{Columns.Columns, Message.Message}
 use Rattle.edges.proofs.pour.Goals as goal

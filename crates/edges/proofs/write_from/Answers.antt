@@ -1,5 +1,4 @@
 use Rattle.std.proofs.Common.{ap, List, ◌∙◌}
-use Rattle.messages.specs.Area.{Area}
 use Rattle.refusals.specs.Refusals.Event.{write_from}
 use Rattle.edges.specs.Columns.{columns}
 use Rattle.edges.specs.declared.Message.{Message}

@@ -1,4 +1,3 @@
-use borrow.Author.Rules.{rules}
 use Rattle.form.specs.Form.{fits}
 use Rattle.form.proofs.fits.Goals as goal
 

@@ -1,4 +1,3 @@
-use borrow.Author.Rules.{rules}
 use Rattle.form.specs.Form.{fresh}
 use Rattle.form.proofs.fresh.Goals as goal
 

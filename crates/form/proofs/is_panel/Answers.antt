@@ -1,4 +1,3 @@
-use borrow.Author.Rules.{rules}
 use Rattle.form.specs.Form.{is_panel}
 use Rattle.form.proofs.is_panel.Goals as goal
 

@@ -1,4 +1,3 @@
-use borrow.Author.Rules.{rules}
 use Rattle.form.specs.Form.{operation_ok}
 use Rattle.form.proofs.operation_ok.Goals as goal
 

@@ -1,4 +1,3 @@
-use borrow.Author.Rules.{rules}
 use Rattle.form.specs.Form.{place_with}
 use Rattle.form.proofs.place_with.Goals as goal
 

@@ -1,9 +1,7 @@
 use Prim.Native.Nat.{◌≤◌, ◌-◌}
-use borrow.Author.Rules.{rules}
-use mathlib.Core.Path.{◌≡◌, refl}
-use native.Mathlib.Omega.{arith}
-use Rattle.basics.{proofs.Below.all-next, specs.Below.all_below}
-use Rattle.form.specs.Form.{place_ok, at_writer}
+use mathlib.Core.Path.{◌≡◌}
+use Rattle.basics.{specs.Below.all_below}
+use Rattle.form.specs.Form.{place_ok}
 use Rattle.form.proofs.places_ok.Given as goal
 
 abbrev pub invariant-loop-j : goal.invariant-loop-j

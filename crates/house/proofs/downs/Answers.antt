@@ -1,7 +1,5 @@
-use Prim.Native.Nat.{ℕ, ◌≤◌, ◌-◌}
 use borrow.Author.Rules.{rules}
-use lib.ListN.{get_or}
-use mathlib.Core.{Bool.false, Path.{◌≡◌, refl}}
+use mathlib.Core.{Path.{◌≡◌, refl}}
 use native.Mathlib.Omega.{arith}
 use Rattle.basics.{proofs.Below.count_next, specs.Below.count_below}
 use Rattle.house.specs.NetForm.{downs_in}

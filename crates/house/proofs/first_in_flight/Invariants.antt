@@ -1,8 +1,5 @@
 use Prim.Native.Nat.{◌≤◌, ◌-◌}
-use borrow.Author.Rules.{rules}
-use mathlib.Core.Path.{◌≡◌, refl, sym, ◌∙◌}
-use native.Mathlib.Omega.{arith}
-use Rattle.house.proofs.Turns.{first-none, first_next, pair-none, sender-none, all_none, spot-miss, hit-is}
+use mathlib.Core.Path.{◌≡◌}
 use Rattle.house.specs.Search.{nowhere, flying, first_below, spot_at, of_pair, of_sender}
 use Rattle.house.proofs.first_in_flight.Given as goal
 

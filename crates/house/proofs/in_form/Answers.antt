@@ -1,4 +1,3 @@
-use borrow.Author.Rules.{rules}
 use Rattle.house.specs.NetForm.{net_form}
 use Rattle.house.proofs.in_form.Goals as goal
 

@@ -1,5 +1,3 @@
-use lib.ListN.{length-map}
-use mathlib.Core.Path.{sym, ◌∙◌}
 use Rattle.house.proofs.line_long.Goals as goal
 
 pub returns : goal.returns

@@ -1,4 +1,3 @@
-use borrow.Author.Rules.{rules}
 use Rattle.house.specs.NetForm.{may_be_down}
 use Rattle.house.proofs.may_be_down.Goals as goal
 

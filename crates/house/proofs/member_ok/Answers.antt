@@ -1,4 +1,3 @@
-use borrow.Author.Rules.{rules}
 use Rattle.events.specs.Rules.{value_of}
 use Rattle.house.specs.NetForm.{member_with}
 use Rattle.house.proofs.member_ok.Goals as goal

@@ -1,4 +1,3 @@
-use borrow.Author.Rules.{rules}
 use Rattle.house.proofs.nothing_at.Goals as goal
 
 pub returns : goal.returns

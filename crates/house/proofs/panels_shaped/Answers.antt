@@ -1,8 +1,5 @@
-use Prim.Native.Nat.{ℕ, ◌≤◌, ◌<◌, ◌-◌}
-use borrow.Author.{Count.below_more, Rules.rules}
+use borrow.Author.{Count.below_more}
 use native.Mathlib.Omega.{arith}
-use Rattle.form.proofs.Shape.{Shaped}
-use Rattle.house.specs.Places.{tables_at}
 use Rattle.house.proofs.panels_shaped.Goals as goal
 
 pub loop-i-init : goal.loop-i-init

@@ -1,6 +1,4 @@
 use Prim.Native.Nat.{ℕ, ◌≤◌, ◌<◌, ◌-◌}
-use borrow.Author.{Count.below_more, Rules.rules}
-use native.Mathlib.Omega.{arith}
 use Rattle.form.proofs.Shape.{Shaped}
 use Rattle.house.specs.Places.{tables_at}
 use Rattle.house.proofs.panels_shaped.Given as goal

@@ -1,4 +1,4 @@
-use borrow.Author.{Rules.rules, Tests.{lt-ltb, le-ltb}}
+use borrow.Author.{Tests.{lt-ltb, le-ltb}}
 use mathlib.Core.Path.{sym, ◌∙◌}
 use native.Mathlib.Omega.{arith}
 use Rattle.basics.proofs.Choices.{ite-true, ite-false}

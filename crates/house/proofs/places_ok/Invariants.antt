@@ -1,9 +1,6 @@
 use Prim.Native.Nat.{◌≤◌, ◌-◌}
-use borrow.Author.Rules.{rules}
-use mathlib.Core.Path.{◌≡◌, refl}
-use native.Mathlib.Omega.{arith}
-use Rattle.basics.{proofs.Below.all-next, specs.Below.all_below}
-use Rattle.events.specs.Rules.{value_of}
+use mathlib.Core.Path.{◌≡◌}
+use Rattle.basics.{specs.Below.all_below}
 use Rattle.house.specs.NetForm.{place_ok}
 use Rattle.house.proofs.places_ok.Given as goal
 

@@ -1,9 +1,5 @@
-use Prim.Native.Nat.{ℕ, ◌≤◌, ◌<◌, ◌-◌}
-use borrow.Author.{Count.below_more, Rules.rules}
-use lib.ListN.{length}
-use mathlib.Core.Path.{◌≡◌}
+use borrow.Author.{Count.below_more}
 use native.Mathlib.Omega.{arith}
-use Rattle.house.specs.Places.{row_at}
 use Rattle.house.proofs.rows_long.Goals as goal
 
 pub loop-i-init : goal.loop-i-init

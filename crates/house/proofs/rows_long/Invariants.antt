@@ -1,8 +1,6 @@
 use Prim.Native.Nat.{ℕ, ◌≤◌, ◌<◌, ◌-◌}
-use borrow.Author.{Count.below_more, Rules.rules}
 use lib.ListN.{length}
 use mathlib.Core.Path.{◌≡◌}
-use native.Mathlib.Omega.{arith}
 use Rattle.house.specs.Places.{row_at}
 use Rattle.house.proofs.rows_long.Given as goal
 

@@ -1,9 +1,5 @@
-use Prim.Native.Nat.{ℕ, ◌≤◌, ◌<◌, ◌-◌}
-use borrow.Author.{Count.below_more, Rules.rules}
-use lib.ListN.{length, length-map}
-use mathlib.Core.Path.{◌≡◌, sym, ◌∙◌}
+use borrow.Author.{Count.below_more}
 use native.Mathlib.Omega.{arith}
-use Rattle.tables.specs.Places.{line_at}
 use Rattle.house.proofs.shaped.Goals as goal
 
 pub loop-j-init : goal.loop-j-init

@@ -1,8 +1,6 @@
 use Prim.Native.Nat.{ℕ, ◌≤◌, ◌<◌, ◌-◌}
-use borrow.Author.{Count.below_more, Rules.rules}
-use lib.ListN.{length, length-map}
-use mathlib.Core.Path.{◌≡◌, sym, ◌∙◌}
-use native.Mathlib.Omega.{arith}
+use lib.ListN.{length}
+use mathlib.Core.Path.{◌≡◌}
 use Rattle.tables.specs.Places.{line_at}
 use Rattle.house.proofs.shaped.Given as goal
 

@@ -1,6 +1,4 @@
-use borrow.Author.Rules.{rules}
-use lib.ListN.{length-map}
-use mathlib.Core.Path.{refl, sym, ◌∙◌}
+use mathlib.Core.Path.{refl}
 use Rattle.house.specs.Whole.{Whole}
 use Rattle.house.proofs.whole.Goals as goal
 

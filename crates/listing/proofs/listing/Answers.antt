@@ -1,4 +1,3 @@
-use borrow.Author.Rules.{rules}
 use mathlib.Core.Path.{sym, ◌∙◌}
 use native.Mathlib.Omega.{arith}
 use Rattle.listing.proofs.{Answering.{too_long_lem, not-too-long, too-long-9, short, done}}

@@ -1,7 +1,5 @@
-use Prim.Native.Nat.{◌-◌, ◌≤◌}
 use borrow.Author.Rules.{rules}
-use lib.{ListN.{length, take}, Seq.sets}
-use mathlib.Core.Path.{◌≡◌, refl}
+use mathlib.Core.Path.{refl}
 use Rattle.listing.proofs.{Laying.{laid_more, all_laid, put-long}}
 use Rattle.listing.proofs.put_all.Goals as goal
 

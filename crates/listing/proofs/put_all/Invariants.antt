@@ -1,8 +1,6 @@
 use Prim.Native.Nat.{◌-◌, ◌≤◌}
-use borrow.Author.Rules.{rules}
 use lib.{ListN.{length, take}, Seq.sets}
-use mathlib.Core.Path.{◌≡◌, refl}
-use Rattle.listing.proofs.{Laying.{laid_more, all_laid, put-long}}
+use mathlib.Core.Path.{◌≡◌}
 use Rattle.listing.proofs.put_all.Given as goal
 
 abbrev pub invariant-loop-i : goal.invariant-loop-i

@@ -1,8 +1,6 @@
-use borrow.Author.Rules.{rules}
 use lib.ListN.{length}
-use native.Mathlib.Omega.{arith}
-use Rattle.listing.proofs.{Giving.left, Laying.{header-long, header-place, header-area, put-long}}
-use Rattle.listing.proofs.{LineByLine.{Lays, lays-first, lays-next, lays_all, fewer-left, step-few, at-few}, Turned.turn-next}
+use Rattle.listing.proofs.{Giving.left}
+use Rattle.listing.proofs.{LineByLine.{Lays}}
 use Rattle.listing.specs.Turning.{bench_at}
 use Rattle.listing.proofs.put_lines.Given as goal
 

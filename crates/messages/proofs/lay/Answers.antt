@@ -1,4 +1,3 @@
-use borrow.Author.Rules.{rules}
 use native.Mathlib.Omega.{arith}
 use Rattle.messages.proofs.{Laying.{further_then, laying-all}, Messages.cast-most}
 use Rattle.messages.specs.Sends.{messages_of}

@@ -1,10 +1,5 @@
-use Prim.Native.Nat.{ℕ, ◌≤◌, ◌-◌}
-use borrow.Author.Rules.{rules}
-use mathlib.Core.Path.{◌≡◌, ap}
-use native.Mathlib.Omega.{arith}
-use Rattle.messages.proofs.Laying.{further-as, further_then, further-none, further-lengths}
-use Rattle.messages.proofs.{Messages.{below_none, below_next, below-most}}
-use Rattle.messages.specs.{Area.Further, Sends.{cast_below, cast_of}}
+use Prim.Native.Nat.{◌≤◌, ◌-◌}
+use Rattle.messages.specs.{Area.Further, Sends.{cast_below}}
 use Rattle.messages.proofs.lay_cast.Given as goal
 
 abbrev pub invariant-loop-j : goal.invariant-loop-j

@@ -1,11 +1,11 @@
-use Prim.Native.Nat.{ℕ, ◌≤◌, ◌-◌}
+use Prim.Native.Nat.{ℕ}
 use borrow.Author.Rules.{rules}
 use mathlib.Core.Path.{◌≡◌, refl, sym, ap}
 use native.Mathlib.Omega.{arith}
 use Rattle.basics.proofs.Choices.{ite-true}
 use Rattle.messages.proofs.Laying.{further-as, further_then, further-none, further-lengths}
 use Rattle.messages.proofs.{Messages.{proceeds-none, proceeds-next, length-proceeds}}
-use Rattle.messages.specs.{Area.Further, Sends.proceeds_to}
+use Rattle.messages.specs.{Sends.proceeds_to}
 use Rattle.messages.proofs.lay_proceeds.Goals as goal
 
 pub loop-i-init : goal.loop-i-init

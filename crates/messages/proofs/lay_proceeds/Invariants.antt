@@ -1,10 +1,4 @@
-use Prim.Native.Nat.{ℕ, ◌≤◌, ◌-◌}
-use borrow.Author.Rules.{rules}
-use mathlib.Core.Path.{◌≡◌, refl, sym, ap}
-use native.Mathlib.Omega.{arith}
-use Rattle.basics.proofs.Choices.{ite-true}
-use Rattle.messages.proofs.Laying.{further-as, further_then, further-none, further-lengths}
-use Rattle.messages.proofs.{Messages.{proceeds-none, proceeds-next, length-proceeds}}
+use Prim.Native.Nat.{◌≤◌, ◌-◌}
 use Rattle.messages.specs.{Area.Further, Sends.proceeds_to}
 use Rattle.messages.proofs.lay_proceeds.Given as goal
 

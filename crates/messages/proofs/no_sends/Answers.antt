@@ -1,4 +1,3 @@
-use borrow.Author.Rules.{rules}
 use mathlib.Core.Path.{ap₂}
 use Rattle.messages.specs.{Sends.no_sends, declared.Cast.Cast}
 use Rattle.messages.proofs.no_sends.Goals as goal

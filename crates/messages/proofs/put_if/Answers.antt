@@ -1,4 +1,3 @@
-use borrow.Author.Rules.{rules}
 use Rattle.basics.proofs.Choices.{ite-true, ite-false}
 use Rattle.messages.proofs.{Laying.{further-as, further-one, further-none}}
 use Rattle.messages.proofs.put_if.Goals as goal

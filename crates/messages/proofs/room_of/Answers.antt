@@ -1,4 +1,3 @@
-use borrow.Author.Rules.{rules}
 use native.Mathlib.Omega.{arith}
 use Rattle.messages.specs.Area.{room_of}
 use Rattle.messages.proofs.room_of.Goals as goal

@@ -1,8 +1,8 @@
-use borrow.Author.{Rules.rules, Tests.{not-true, not-false}}
+use borrow.Author.{Tests.{not-true, not-false}}
 use mathlib.Core.Path.{◌∙◌}
 use native.Mathlib.Omega.{arith}
-use Rattle.steps.{proofs.Networks.good-test, specs.Numbers.load_of}
-use Rattle.network.proofs.{Along.{Along, along-start, along-done, along-refused, along-falls, along-next}, Calls.a-delivery}
+use Rattle.steps.{proofs.Networks.good-test}
+use Rattle.network.proofs.{Along.{along-start, along-done, along-refused, along-falls, along-next}, Calls.a-delivery}
 use Rattle.network.proofs.drain_in.Goals as goal
 
 pub loop-s-init : goal.loop-s-init

@@ -1,8 +1,5 @@
-use borrow.Author.{Rules.rules, Tests.{not-true, not-false}}
-use mathlib.Core.Path.{◌∙◌}
-use native.Mathlib.Omega.{arith}
-use Rattle.steps.{proofs.Networks.good-test, specs.Numbers.load_of}
-use Rattle.network.proofs.{Along.{Along, along-start, along-done, along-refused, along-falls, along-next}, Calls.a-delivery}
+use Rattle.steps.{specs.Numbers.load_of}
+use Rattle.network.proofs.{Along.{Along}}
 use Rattle.network.proofs.drain_in.Given as goal
 
 abbrev pub invariant-loop-s : goal.invariant-loop-s

@@ -1,4 +1,3 @@
-use borrow.Author.Rules.{rules}
 use mathlib.Core.Path.{◌∙◌}
 use Rattle.house.proofs.Searching.{by-flying}
 use Rattle.network.proofs.first_in_flight.Goals as goal

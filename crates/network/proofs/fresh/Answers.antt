@@ -1,4 +1,3 @@
-use borrow.Author.Rules.{rules}
 use Rattle.steps.specs.SetUp.{fresh_network}
 use Rattle.network.proofs.fresh.Goals as goal
 

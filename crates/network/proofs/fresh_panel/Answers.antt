@@ -1,4 +1,3 @@
-use borrow.Author.Rules.{rules}
 use mathlib.Core.Path.{ap}
 use Rattle.panel.specs.declared.Made.{Made}
 use Rattle.network.proofs.fresh_panel.Goals as goal

@@ -1,11 +1,7 @@
-use Prim.Native.Nat.{ℕ, ◌+◌, ◌-◌, ◌≤◌}
 use borrow.Author.Rules.{rules}
-use lib.ListN.{drop}
-use mathlib.Core.{List.{◌++◌, append-nil}, Path.◌≡◌}
+use mathlib.Core.{List.{append-nil}, Path.◌≡◌}
 use native.Mathlib.Omega.{arith}
-use Rattle.basics.specs.Below.{list_below}
 use Rattle.house.specs.Places.{nobody}
-use Rattle.panel.specs.Calls.{made}
 use Rattle.tables.proofs.Filling.{filled_none, filled_next}
 use Rattle.network.proofs.fresh_panels.Goals as goal
 

@@ -1,12 +1,8 @@
 use Prim.Native.Nat.{ℕ, ◌+◌, ◌-◌, ◌≤◌}
-use borrow.Author.Rules.{rules}
 use lib.ListN.{drop}
-use mathlib.Core.{List.{◌++◌, append-nil}, Path.◌≡◌}
-use native.Mathlib.Omega.{arith}
+use mathlib.Core.{List.{◌++◌}, Path.◌≡◌}
 use Rattle.basics.specs.Below.{list_below}
-use Rattle.house.specs.Places.{nobody}
 use Rattle.panel.specs.Calls.{made}
-use Rattle.tables.proofs.Filling.{filled_none, filled_next}
 use Rattle.network.proofs.fresh_panels.Given as goal
 
 abbrev pub invariant-loop-i : goal.invariant-loop-i

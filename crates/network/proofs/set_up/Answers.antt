@@ -1,4 +1,3 @@
-use borrow.Author.Rules.{rules}
 use mathlib.Core.Path.{sym}
 use Rattle.basics.specs.Choice.{ite}
 use Rattle.steps.specs.SetUp.{set_up}

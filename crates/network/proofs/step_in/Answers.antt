@@ -1,4 +1,3 @@
-use borrow.Author.Rules.{rules}
 use Rattle.parts.proofs.Back.{step_back}
 use Rattle.network.proofs.step_in.Goals as goal
 

@@ -1,4 +1,3 @@
-use borrow.Author.{Rules.rules, Tests.{not-true, not-false}}
 use mathlib.Core.Path.{sym, ◌∙◌}
 use Rattle.steps.proofs.Settling.{checked_refused, checked-in-form}
 use Rattle.network.proofs.{Calls.a_write}

@@ -1,4 +1,3 @@
-use borrow.Author.Rules.{rules}
 use Rattle.panel.specs.Calls.{nothing}
 use Rattle.panel.proofs.not_made.Goals as goal
 

@@ -1,4 +1,3 @@
-use borrow.Author.Rules.{rules}
 use Rattle.panel.proofs.{Calling.told-as}
 use Rattle.panel.proofs.tell.Goals as goal
 

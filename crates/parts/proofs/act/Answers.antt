@@ -1,4 +1,3 @@
-use borrow.Author.Rules.{rules}
 use mathlib.Core.Path.{◌∙◌}
 use Rattle.parts.proofs.{Trials.{acts-write, acts-read, acts-deliver, acts-lose, acts-none}}
 use Rattle.parts.proofs.act.Goals as goal

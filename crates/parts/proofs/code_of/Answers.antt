@@ -1,4 +1,3 @@
-use borrow.Author.Rules.{rules}
 use mathlib.Core.Path.{sym, ap}
 use Rattle.promise.specs.View.{code_of}
 use Rattle.parts.proofs.code_of.Goals as goal

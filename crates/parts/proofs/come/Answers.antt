@@ -1,4 +1,3 @@
-use borrow.Author.Rules.{rules}
 use mathlib.Core.Path.{sym, ap, ◌∙◌}
 use Rattle.panel.specs.Calls.{after}
 use Rattle.parts.proofs.{Trials.{comes-write0, comes-write1, comes-read, comes-proceed}}

@@ -1,4 +1,3 @@
-use borrow.Author.Rules.{rules}
 use mathlib.Core.Path.{◌∙◌}
 use Rattle.parts.proofs.{Trials.{deliver-nobody, deliver-down, deliver-none, deliver-comes}}
 use Rattle.std.proofs.Common.{ap, not}

@@ -1,5 +1,4 @@
 use Prim.Native.Nat.{ℕ}
-use borrow.Author.Rules.{rules}
 use lib.{ListN.{length, set}, Seq.set_out}
 use mathlib.Core.{Bool.true, Path.{◌≡◌, sym, ap}}
 use native.Mathlib.Omega.{arith}

@@ -1,5 +1,4 @@
 use Prim.Native.Nat.{ℕ}
-use borrow.Author.Rules.{rules}
 use lib.ListN.{length, get_or, get_or-eq_default}
 use mathlib.Core.{Bool.false, Path.{◌≡◌, sym, ap}}
 use native.Mathlib.Omega.{arith}

@@ -1,4 +1,3 @@
-use borrow.Author.Rules.{rules}
 use Rattle.steps.specs.Steps.{is_pair}
 use Rattle.parts.proofs.is_pair.Goals as goal
 

@@ -1,4 +1,3 @@
-use borrow.Author.Rules.{rules}
 use mathlib.Core.Path.{◌∙◌}
 use Rattle.parts.proofs.{Trials.{lose-nobody, lose-down, lose-too-many, lose-more}}
 use Rattle.std.proofs.Common.{ap, not}

@@ -1,4 +1,4 @@
-use borrow.Author.{Rules.rules, Tests.{le-leb, lt-leb}}
+use borrow.Author.{Tests.{le-leb, lt-leb}}
 use mathlib.Core.Path.{sym, ◌∙◌}
 use native.Mathlib.Omega.{arith}
 use Rattle.basics.proofs.Choices.{ite-true, ite-false}

@@ -1,4 +1,3 @@
-use borrow.Author.Rules.{rules}
 use mathlib.Core.Path.{◌∙◌}
 use Rattle.parts.proofs.{Trials.{read-nobody, read_down, read_live}}
 use Rattle.std.proofs.Common.{ap, not}

@@ -1,7 +1,5 @@
-use borrow.Author.Rules.{rules}
 use mathlib.Core.Path.{◌∙◌}
 use Rattle.parts.proofs.{Trials.{event-refused, event-full, event-done}}
-use Rattle.std.proofs.Common.{ap, not}
 use Rattle.parts.proofs.settle.Goals as goal
 
 pub returns-then-k-ne0 : goal.returns-then-k-ne0

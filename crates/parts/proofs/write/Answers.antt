@@ -1,4 +1,3 @@
-use borrow.Author.Rules.{rules}
 use mathlib.Core.Path.{◌∙◌}
 use Rattle.parts.proofs.{Trials.{write-down, write-live}}
 use Rattle.parts.proofs.write.Goals as goal

@@ -1,4 +1,3 @@
-use borrow.Author.Rules.{rules}
 use Rattle.refusals.specs.Refusals.{is_idle}
 use Rattle.refusals.proofs.is_idle.Goals as goal
 

@@ -1,4 +1,3 @@
-use borrow.Author.{Rules.rules, Tests.{not-true, not-false}}
 use mathlib.Core.Path.{sym, ◌∙◌}
 use Rattle.refusals.proofs.{Refusing.{first-2, first-3, first-0}}
 use Rattle.refusals.proofs.refused_first.Goals as goal

@@ -1,4 +1,3 @@
-use borrow.Author.Rules.{rules}
 use mathlib.Core.Path.{◌≡◌, sym, ◌∙◌}
 use Rattle.refusals.proofs.{Refusing.{peer-first, peer-4, peer-0}}
 use Rattle.refusals.specs.Refusals.{is_peer}

@@ -1,5 +1,5 @@
 use Prim.Native.Nat.{ℕ, ◌≤◌, ◌<◌, ◌-◌}
-use borrow.Author.{Rules.rules, Tests.{not-true, not-false, eq-eqb, ne_eqb}}
+use borrow.Author.{Tests.{eq-eqb, ne_eqb}}
 use mathlib.Core.Path.{subst, sym, ◌∙◌}
 use native.Mathlib.Omega.{arith}
 use Rattle.form.specs.Form.{at_writer}

@@ -1,4 +1,3 @@
-use borrow.Author.Rules.{rules}
 use Rattle.refusals.specs.Refusals.{right_bit}
 use Rattle.refusals.proofs.right_bit.Goals as goal
 

@@ -1,4 +1,3 @@
-use borrow.Author.Rules.{rules}
 use Rattle.refusals.specs.Refusals.{stray}
 use Rattle.refusals.proofs.stray.Goals as goal
 

@@ -1,4 +1,3 @@
-use borrow.Author.Rules.{rules}
 use Rattle.form.specs.Form.{at_writer}
 use Rattle.refusals.specs.Refusals.{too_high}
 use Rattle.refusals.proofs.too_high.Goals as goal

@@ -1,4 +1,3 @@
-use borrow.Author.Rules.{rules}
 use mathlib.Core.Path.{sym, ◌∙◌}
 use Rattle.basics.proofs.Choices.{ite-true, ite-false}
 use Rattle.schedule.proofs.byte_if.Goals as goal

@@ -1,4 +1,3 @@
-use borrow.Author.Rules.{rules}
 use Rattle.basics.specs.Choice.{ite}
 use Rattle.schedule.proofs.put_byte_if.Goals as goal
 

@@ -1,4 +1,3 @@
-use borrow.Author.Rules.{rules}
 use native.Mathlib.Omega.{arith}
 use Rattle.schedule.proofs.{Lengths.{length-valued, length-bare, singles-few}}
 use Rattle.schedule.proofs.singles.Goals as goal

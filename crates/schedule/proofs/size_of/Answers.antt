@@ -1,4 +1,3 @@
-use borrow.Author.Rules.{rules}
 use native.Mathlib.Omega.{arith}
 use Rattle.schedule.proofs.{Lengths.size-right}
 use Rattle.schedule.proofs.size_of.Goals as goal

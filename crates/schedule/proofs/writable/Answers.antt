@@ -1,4 +1,3 @@
-use borrow.Author.Rules.{rules}
 use Rattle.schedule.specs.Records.{carries, clear, writable}
 use Rattle.schedule.proofs.writable.Goals as goal
 

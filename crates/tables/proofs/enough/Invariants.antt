@@ -1,9 +1,7 @@
 use Prim.Native.Nat.{ℕ, ◌≤◌, ◌-◌}
-use borrow.Author.Rules.{rules}
 use lib.ListN.{get_or}
-use mathlib.Core.{Bool.false, Path.{◌≡◌, refl}}
-use native.Mathlib.Omega.{arith}
-use Rattle.basics.{proofs.Below.count_next, specs.Below.count_below}
+use mathlib.Core.{Bool.false, Path.{◌≡◌}}
+use Rattle.basics.{specs.Below.count_below}
 use Rattle.tables.proofs.enough.Given as goal
 
 abbrev pub invariant-loop-j : goal.invariant-loop-j

@@ -1,9 +1,6 @@
-use Prim.Native.Nat.{◌≤◌, ◌-◌}
 use borrow.Author.Rules.{rules}
-use lib.ListN.{drop}
-use mathlib.Core.{Bool.false, List.{◌++◌, append-nil}, Path.◌≡◌}
+use mathlib.Core.{Bool.false, List.{append-nil}, Path.◌≡◌}
 use native.Mathlib.Omega.{arith}
-use Rattle.basics.specs.Below.{list_below}
 use Rattle.tables.proofs.{Filling.{filled_none, filled_next}}
 use Rattle.tables.specs.Marks.{has_w, among, marks}
 use Rattle.tables.proofs.has_w.Goals as goal

@@ -1,9 +1,6 @@
 use Prim.Native.Nat.{◌<◌, ◌-◌}
-use borrow.Author.Rules.{rules}
-use mathlib.Core.Path.{◌≡◌, ◌∙◌}
-use native.Mathlib.Omega.{arith}
+use mathlib.Core.Path.{◌≡◌}
 use Rattle.basics.specs.Below.{all_below}
-use Rattle.tables.proofs.{Turns.{history-start, history-next, history-end}}
 use Rattle.tables.specs.Form.{unknown_ok}
 use Rattle.tables.proofs.history_ok.Given as goal
 

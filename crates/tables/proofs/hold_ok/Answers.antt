@@ -1,4 +1,3 @@
-use borrow.Author.Rules.{rules}
 use Rattle.tables.specs.Form.{hold_ok}
 use Rattle.tables.proofs.hold_ok.Goals as goal
 

@@ -1,10 +1,7 @@
-use Prim.Native.Nat.{◌+◌, ◌≤◌, ◌-◌}
 use borrow.Author.Rules.{rules}
-use lib.ListN.{length-map}
-use mathlib.Core.Path.{◌≡◌, sym, ◌∙◌}
+use mathlib.Core.Path.{sym, ◌∙◌}
 use native.Mathlib.Omega.{arith}
 use Rattle.tables.proofs.{Turns.{leaving-first, leaving-next, leaving-here, leaving-end, leaving-past}}
-use Rattle.tables.specs.Lines.{leading, leaving}
 use Rattle.tables.proofs.leaving.Goals as goal
 
 pub loop-m-init : goal.loop-m-init

@@ -1,9 +1,5 @@
 use Prim.Native.Nat.{◌+◌, ◌≤◌, ◌-◌}
-use borrow.Author.Rules.{rules}
-use lib.ListN.{length-map}
-use mathlib.Core.Path.{◌≡◌, sym, ◌∙◌}
-use native.Mathlib.Omega.{arith}
-use Rattle.tables.proofs.{Turns.{leaving-first, leaving-next, leaving-here, leaving-end, leaving-past}}
+use mathlib.Core.Path.{◌≡◌}
 use Rattle.tables.specs.Lines.{leading, leaving}
 use Rattle.tables.proofs.leaving.Given as goal
 

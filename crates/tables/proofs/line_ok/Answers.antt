@@ -1,10 +1,9 @@
-use Prim.Native.Nat.{◌≤◌, ◌-◌}
 use borrow.Author.Rules.{rules}
 use mathlib.Core.Path.{◌≡◌, refl}
 use native.Mathlib.{Nat.add-sub_cancel, Omega.arith}
 use Rattle.basics.specs.Below.{all_below}
 use Rattle.tables.proofs.{Turns.line-next}
-use Rattle.tables.specs.{Form.{entry_ok, line_ok}, Places.w_at}
+use Rattle.tables.specs.{Form.{line_ok}}
 use Rattle.tables.proofs.line_ok.Goals as goal
 
 pub loop-k-init : goal.loop-k-init

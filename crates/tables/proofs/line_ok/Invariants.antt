@@ -1,10 +1,7 @@
 use Prim.Native.Nat.{◌≤◌, ◌-◌}
-use borrow.Author.Rules.{rules}
-use mathlib.Core.Path.{◌≡◌, refl}
-use native.Mathlib.{Nat.add-sub_cancel, Omega.arith}
+use mathlib.Core.Path.{◌≡◌}
 use Rattle.basics.specs.Below.{all_below}
-use Rattle.tables.proofs.{Turns.line-next}
-use Rattle.tables.specs.{Form.{entry_ok, line_ok}, Places.w_at}
+use Rattle.tables.specs.{Form.{entry_ok}, Places.w_at}
 use Rattle.tables.proofs.line_ok.Given as goal
 
 abbrev pub invariant-loop-k : goal.invariant-loop-k

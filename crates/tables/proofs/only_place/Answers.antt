@@ -1,4 +1,3 @@
-use borrow.Author.Rules.{rules}
 use Rattle.tables.proofs.{Marks.{only_set, only_none}}
 use Rattle.tables.proofs.only_place.Goals as goal
 

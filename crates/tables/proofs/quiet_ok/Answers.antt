@@ -1,4 +1,3 @@
-use borrow.Author.Rules.{rules}
 use Rattle.tables.specs.Form.{quiet_ok}
 use Rattle.tables.proofs.quiet_ok.Goals as goal
 

@@ -1,9 +1,5 @@
-use Prim.Native.Nat.{ℕ, ◌+◌, ◌≤◌, ◌-◌}
 use borrow.Author.Rules.{rules}
-use lib.ListN.{drop, get_or, length-map}
-use mathlib.Core.{List.◌++◌, Path.{◌≡◌, sym, ◌∙◌}}
 use native.Mathlib.Omega.{arith}
-use Rattle.basics.specs.Below.{list_below}
 use Rattle.tables.proofs.{Filling.{filled_none, filled_next}, Turns.without-made}
 use Rattle.tables.specs.Places.{no_write}
 use Rattle.tables.proofs.without.Goals as goal

@@ -1,8 +1,6 @@
 use Prim.Native.Nat.{◌+◌}
 use lib.ListN.{length}
 use mathlib.Core.Path.{◌≡◌}
-use native.Mathlib.Omega.{arith}
-use Rattle.text.proofs.{Decimal.{length-small, length_more, length_most}}
 use Rattle.text.specs.Text.{dec}
 use Rattle.text.proofs.digits.Given as goal
 

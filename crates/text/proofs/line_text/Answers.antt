@@ -1,4 +1,3 @@
-use borrow.Author.Rules.{rules}
 use native.Mathlib.Omega.{arith}
 use Rattle.text.proofs.{Decimal.length_most, Lines.line-laid}
 use Rattle.text.proofs.line_text.Goals as goal

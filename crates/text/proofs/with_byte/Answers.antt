@@ -1,4 +1,3 @@
-use borrow.Author.Rules.{rules}
 use mathlib.Core.Path.{refl}
 use native.Mathlib.Nat.{le_refl}
 use Rattle.text.specs.Text.{appended}

@@ -1,5 +1,4 @@
 use Prim.Native.Nat.{ℕ}
-use borrow.Author.Rules.{rules}
 use mathlib.Core.{List.{List, ◌∷◌}, Path.ap}
 use native.Mathlib.Omega.{arith}
 use Rattle.text.proofs.{Appending.{behind, named}, Lines.{panel-shown, panel-none, byte-most, panel-most}}

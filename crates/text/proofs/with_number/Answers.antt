@@ -1,10 +1,7 @@
-use Prim.Native.Nat.{◌+◌, ◌/◌, ◌<◌}
-use borrow.Author.Rules.{rules}
-use lib.{ListN.length, Seq.sets}
-use mathlib.Core.Path.{◌≡◌, refl, ◌∙◌}
+use Prim.Native.Nat.{◌/◌}
+use mathlib.Core.Path.{refl, ◌∙◌}
 use native.Mathlib.Omega.{arith}
 use Rattle.text.proofs.{Appending.{appends, digit-first, number-laid}, Decimal.{length_more, length_some, length_most}}
-use Rattle.text.specs.Text.{dec}
 use Rattle.text.proofs.with_number.Goals as goal
 
 pub overflow_sub-at : goal.overflow_sub-at

@@ -1,9 +1,6 @@
-use Prim.Native.Nat.{◌+◌, ◌/◌, ◌<◌}
-use borrow.Author.Rules.{rules}
+use Prim.Native.Nat.{◌+◌, ◌<◌}
 use lib.{ListN.length, Seq.sets}
-use mathlib.Core.Path.{◌≡◌, refl, ◌∙◌}
-use native.Mathlib.Omega.{arith}
-use Rattle.text.proofs.{Appending.{appends, digit-first, number-laid}, Decimal.{length_more, length_some, length_most}}
+use mathlib.Core.Path.{◌≡◌}
 use Rattle.text.specs.Text.{dec}
 use Rattle.text.proofs.with_number.Given as goal
 

@@ -1,9 +1,7 @@
 use Prim.Native.Nat.{◌≤◌, ◌-◌}
-use borrow.Author.Rules.{rules}
-use mathlib.Core.Path.{◌≡◌, refl}
-use native.Mathlib.Omega.{arith}
-use Rattle.basics.{proofs.Below.all-next, specs.Below.all_below}
-use Rattle.unused.specs.Unused.{value_zero, history_unused}
+use mathlib.Core.Path.{◌≡◌}
+use Rattle.basics.{specs.Below.all_below}
+use Rattle.unused.specs.Unused.{value_zero}
 use Rattle.unused.proofs.history_unused.Given as goal
 
 abbrev pub invariant-loop-k : goal.invariant-loop-k

@@ -1,4 +1,3 @@
-use borrow.Author.Rules.{rules}
 use Rattle.unused.specs.Unused.{idle}
 use Rattle.unused.proofs.is_idle.Goals as goal
 

@@ -1,4 +1,3 @@
-use borrow.Author.Rules.{rules}
 use Rattle.unused.specs.Unused.{place_with}
 use Rattle.unused.proofs.place_unused.Goals as goal
 

@@ -1,4 +1,3 @@
-use borrow.Author.Rules.{rules}
 use Rattle.unused.specs.Unused.{unused}
 use Rattle.unused.proofs.unused.Goals as goal
 

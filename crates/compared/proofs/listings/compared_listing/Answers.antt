@@ -1,4 +1,3 @@
-use borrow.Author.Rules.{rules}
 use mathlib.Core.Path.{ap}
 use Rattle.listing.specs.Listing.{Outcome}
 use Rattle.compared.proofs.listings.compared_listing.Goals as goal

@@ -1,4 +1,3 @@
-use borrow.Author.Rules.{rules}
 use Rattle.carried.proofs.Rows.{laid-byte}
 use Rattle.compared.proofs.{Stepping.{draining, network-then}}
 use Rattle.compared.specs.Stepping.{drained_bytes}

@@ -1,4 +1,3 @@
-use borrow.Author.Rules.{rules}
 use mathlib.Core.Path.{ap, ◌∙◌}
 use Rattle.basics.specs.Below.{one_if}
 use Rattle.house.specs.NetForm.{net_form}

@@ -1,4 +1,3 @@
-use borrow.Author.Rules.{rules}
 use Rattle.compared.proofs.{Stepping.seeking}
 use Rattle.compared.proofs.networks.compared_network_next_delivery.Goals as goal
 

@@ -1,4 +1,3 @@
-use borrow.Author.Rules.{rules}
 use Rattle.compared.proofs.{Stepping.network-reported}
 use Rattle.compared.proofs.networks.compared_network_set_up.Goals as goal
 

@@ -1,4 +1,3 @@
-use borrow.Author.Rules.{rules}
 use Rattle.house.specs.declared.Network.{Network}
 use Rattle.steps.specs.Steps.{written}
 use Rattle.compared.proofs.{Stepping.stepping}

@@ -1,4 +1,3 @@
-use borrow.Author.Rules.{rules}
 use Rattle.compared.proofs.{Stepping.network-then}
 use Rattle.compared.specs.Stepping.{stepped_bytes}
 use Rattle.compared.proofs.networks.put_stepped.Goals as goal

@@ -1,4 +1,3 @@
-use borrow.Author.Rules.{rules}
 use mathlib.Core.Path.{sym, ◌∙◌}
 use Rattle.events.proofs.{Looking.{look-as, sn-low}}
 use Rattle.events.specs.Look.{look_as}

@@ -1,4 +1,3 @@
-use borrow.Author.Rules.{rules}
 use mathlib.Core.Path.{◌∙◌}
 use Rattle.events.proofs.{Looking.{own-low, first_ends, first-goes-on}}
 use Rattle.events.proofs.look.look_first.Goals as goal

@@ -1,4 +1,3 @@
-use borrow.Author.Rules.{rules}
 use Rattle.events.proofs.{Looking.{writing-ends, writing-goes-on}}
 use Rattle.events.proofs.look.look_writing.Goals as goal
 

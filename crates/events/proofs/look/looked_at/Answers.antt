@@ -1,4 +1,3 @@
-use borrow.Author.Rules.{rules}
 use Rattle.events.specs.Events.{looked_at}
 use Rattle.events.proofs.look.looked_at.Goals as goal
 

@@ -1,4 +1,3 @@
-use borrow.Author.Rules.{rules}
 use Rattle.events.specs.Rules.{value_of}
 use Rattle.events.proofs.look.value_of.Goals as goal
 

@@ -1,5 +1,4 @@
 use Prim.Native.Nat.{ℕ, ◌-◌, ◌<◌}
-use borrow.Author.Rules.{rules}
 use mathlib.Core.Path.{sym, subst}
 use native.Mathlib.Omega.{arith}
 use Rattle.tables.specs.Places.{r_at}

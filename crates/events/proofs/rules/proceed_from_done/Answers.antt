@@ -1,5 +1,4 @@
 use Prim.Native.Nat.{ℕ, ◌-◌}
-use borrow.Author.Rules.{rules}
 use mathlib.Core.Path.{sym, ap, subst, ◌∙◌}
 use Rattle.refusals.{proofs.Passing.may-proceed-from, specs.Refusals.{refusal, trials}, specs.Refusals.Event.proceed_from}
 use Rattle.events.proofs.{Happening.{happens-refused, happens-taken, comes}, Running.looks-proceed}

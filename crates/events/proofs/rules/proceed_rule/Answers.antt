@@ -1,4 +1,3 @@
-use borrow.Author.Rules.{rules}
 use Rattle.events.specs.Rules.{proceed_rule}
 use Rattle.events.proofs.rules.proceed_rule.Goals as goal
 

@@ -1,4 +1,3 @@
-use borrow.Author.Rules.{rules}
 use mathlib.Core.Path.{sym, subst, ◌∙◌}
 use Rattle.form.proofs.InForm.{form-view, sized}
 use Rattle.refusals.{proofs.Passing.may_read, specs.Refusals.{refusal, trials}, specs.Refusals.Event.read}

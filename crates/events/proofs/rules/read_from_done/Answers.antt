@@ -1,5 +1,4 @@
 use Prim.Native.Nat.{ℕ, ◌-◌, ◌<◌}
-use borrow.Author.Rules.{rules}
 use mathlib.Core.Path.{sym, ap, subst, ◌∙◌}
 use Rattle.form.{proofs.InForm.sized, specs.Setting.own_w}
 use Rattle.refusals.{proofs.Passing.{may-read-from, line-room}, specs.Refusals.{refusal, trials}, specs.Refusals.Event.read_from}

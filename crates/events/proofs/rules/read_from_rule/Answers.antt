@@ -1,4 +1,3 @@
-use borrow.Author.Rules.{rules}
 use Rattle.events.proofs.{Happening.{read-answered, read-waits}}
 use Rattle.events.proofs.rules.read_from_rule.Goals as goal
 

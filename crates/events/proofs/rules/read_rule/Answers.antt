@@ -1,4 +1,3 @@
-use borrow.Author.Rules.{rules}
 use Rattle.events.specs.Rules.{read_rule}
 use Rattle.events.proofs.rules.read_rule.Goals as goal
 

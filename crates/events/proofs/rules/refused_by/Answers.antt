@@ -1,4 +1,3 @@
-use borrow.Author.Rules.{rules}
 use Rattle.events.specs.Events.{refused_by}
 use Rattle.events.proofs.rules.refused_by.Goals as goal
 

@@ -1,4 +1,3 @@
-use borrow.Author.Rules.{rules}
 use Rattle.events.proofs.rules.sends_own.Goals as goal
 
 pub returns : goal.returns

@@ -1,4 +1,3 @@
-use borrow.Author.Rules.{rules}
 use Rattle.events.specs.Rules.{write_rule}
 use Rattle.events.proofs.rules.write_rule.Goals as goal
 

@@ -1,4 +1,3 @@
-use borrow.Author.Rules.{rules}
 use Rattle.events.specs.Rules.{hold_rule}
 use Rattle.events.proofs.take.hold_rule.Goals as goal
 

@@ -1,4 +1,3 @@
-use borrow.Author.Rules.{rules}
 use mathlib.Core.Path.{refl}
 use Rattle.events.specs.Rules.{reached}
 use Rattle.events.proofs.take.reached.Goals as goal

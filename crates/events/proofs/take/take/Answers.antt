@@ -1,4 +1,3 @@
-use borrow.Author.Rules.{rules}
 use Rattle.events.proofs.{Happening.{takes-learn, takes-lag, take-learns, take-lags, take_meets}}
 use Rattle.events.proofs.take.take.Goals as goal
 

@@ -1,4 +1,3 @@
-use borrow.Author.Rules.{rules}
 use mathlib.Core.Path.{sym, ap, subst, ◌∙◌}
 use Rattle.form.specs.declared.Tables.{Tables}
 use Rattle.tables.specs.Places.{hold_at}

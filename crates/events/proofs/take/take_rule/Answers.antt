@@ -1,6 +1,4 @@
-use borrow.Author.Rules.{rules}
-use lib.ListN.{length-map}
-use mathlib.Core.Path.{sym, subst, ◌∙◌}
+use mathlib.Core.Path.{sym, subst}
 use Rattle.events.proofs.{Running.take-then-held}
 use Rattle.events.specs.{Asked.TakesHeld, Rules.{take_rule, released}, declared.Took.Took}
 use Rattle.events.proofs.take.take_rule.Goals as goal

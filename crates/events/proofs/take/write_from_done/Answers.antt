@@ -1,5 +1,3 @@
-use borrow.Author.Rules.{rules}
-use lib.ListN.{length-map}
 use mathlib.Core.Path.{sym, subst, ◌∙◌}
 use Rattle.refusals.{proofs.Passing.may-write-from, specs.Refusals.{refusal, trials}, specs.Refusals.Event.write_from}
 use Rattle.events.proofs.{Coming.{takes_all, looks-taken, rule-takes, rule-holds}, Happening.{happens-refused, happens-taken, comes}}

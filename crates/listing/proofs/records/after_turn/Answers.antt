@@ -1,4 +1,4 @@
-use borrow.Author.{Rules.rules, Tests.{not-true, not-false}}
+use borrow.Author.{Tests.{not-true, not-false}}
 use Rattle.listing.proofs.{Turns.{after-quiet, after-step}}
 use Rattle.listing.proofs.records.after_turn.Goals as goal
 

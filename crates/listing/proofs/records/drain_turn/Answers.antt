@@ -1,4 +1,4 @@
-use borrow.Author.{Rules.rules, Tests.{not-true, not-false}}
+use borrow.Author.{Tests.{not-true, not-false}}
 use native.Mathlib.Omega.{arith}
 use Rattle.listing.proofs.{Turns.{drain-ends, drain-delivers, kind-few}}
 use Rattle.listing.proofs.records.drain_turn.Goals as goal

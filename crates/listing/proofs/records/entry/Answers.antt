@@ -1,4 +1,3 @@
-use borrow.Author.Rules.{rules}
 use Rattle.listing.proofs.{Turns.entry-as}
 use Rattle.listing.proofs.records.entry.Goals as goal
 

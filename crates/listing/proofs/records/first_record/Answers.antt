@@ -1,4 +1,3 @@
-use borrow.Author.Rules.{rules}
 use mathlib.Core.Path.{ap, ◌∙◌}
 use Rattle.listing.proofs.Turns.{first-refused, first-other, first-out-of-range, first-set-up}
 use Rattle.listing.specs.Turning.{bench_at}

@@ -1,4 +1,3 @@
-use borrow.Author.Rules.{rules}
 use mathlib.Core.Path.{ap, ◌∙◌}
 use Rattle.listing.proofs.{Turns.{opened-empty, opened_some}}
 use Rattle.listing.specs.Turning.{bench_at}

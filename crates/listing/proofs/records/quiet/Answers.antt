@@ -1,4 +1,3 @@
-use borrow.Author.Rules.{rules}
 use Rattle.listing.proofs.records.quiet.Goals as goal
 
 pub returns : goal.returns

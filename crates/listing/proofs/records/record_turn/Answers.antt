@@ -1,4 +1,3 @@
-use borrow.Author.Rules.{rules}
 use mathlib.Core.Path.{◌∙◌}
 use Rattle.listing.proofs.Turns.{record-refused, record-set-up, record-drains, record-steps}
 use Rattle.listing.proofs.records.record_turn.Goals as goal

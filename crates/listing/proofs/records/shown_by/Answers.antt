@@ -1,4 +1,3 @@
-use borrow.Author.Rules.{rules}
 use mathlib.Core.Path.{sym, ◌∙◌}
 use Rattle.listing.proofs.{Turns.{shown-two, shown_read, shown-loss, shown-none}}
 use Rattle.listing.proofs.records.shown_by.Goals as goal

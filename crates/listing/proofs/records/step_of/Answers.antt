@@ -1,4 +1,3 @@
-use borrow.Author.Rules.{rules}
 use mathlib.Core.Path.{◌∙◌}
 use Rattle.listing.proofs.{Turns.{step-writes, step-reads, step-loses, step-delivers}}
 use Rattle.listing.proofs.records.step_of.Goals as goal

@@ -1,5 +1,4 @@
 use Prim.Native.Nat.{ℕ}
-use borrow.Author.Rules.{rules}
 use mathlib.Core.Path.{sym, ap, ◌∙◌}
 use Rattle.promise.specs.View.{code_of}
 use Rattle.listing.specs.Entries.{entry, tag_of, number_of, told}

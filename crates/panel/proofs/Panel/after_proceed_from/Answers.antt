@@ -1,4 +1,3 @@
-use borrow.Author.Rules.{rules}
 use Rattle.refusals.specs.Refusals.Event.{proceed_from}
 use Rattle.panel.proofs.{Calling.after-as}
 use Rattle.panel.proofs.Panel.after_proceed_from.Goals as goal

@@ -1,4 +1,3 @@
-use borrow.Author.Rules.{rules}
 use Rattle.refusals.specs.Refusals.Event.{read}
 use Rattle.panel.proofs.{Calling.after-as}
 use Rattle.panel.proofs.Panel.after_read.Goals as goal

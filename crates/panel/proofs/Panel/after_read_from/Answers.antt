@@ -1,4 +1,3 @@
-use borrow.Author.Rules.{rules}
 use Rattle.refusals.specs.Refusals.Event.{read_from}
 use Rattle.panel.proofs.{Calling.after-as}
 use Rattle.panel.proofs.Panel.after_read_from.Goals as goal

@@ -1,4 +1,3 @@
-use borrow.Author.Rules.{rules}
 use Rattle.refusals.specs.Refusals.Event.{read}
 use Rattle.panel.proofs.{Calling.called-as}
 use Rattle.panel.proofs.Panel.read.Goals as goal

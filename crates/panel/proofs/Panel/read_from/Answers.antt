@@ -1,4 +1,3 @@
-use borrow.Author.Rules.{rules}
 use Rattle.refusals.specs.Refusals.Event.{read_from}
 use Rattle.panel.proofs.{Calling.called-as}
 use Rattle.panel.proofs.Panel.read_from.Goals as goal

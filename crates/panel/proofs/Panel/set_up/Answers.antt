@@ -1,4 +1,3 @@
-use borrow.Author.{Rules.rules, Tests.{not-true, not-false}}
 use mathlib.Core.Path.{sym, ◌∙◌}
 use Rattle.panel.proofs.{Calling.{made-unfit, made-elsewhere, made-done}}
 use Rattle.panel.proofs.Panel.set_up.Goals as goal

@@ -1,4 +1,3 @@
-use borrow.Author.Rules.{rules}
 use Rattle.refusals.specs.Refusals.Event.{write}
 use Rattle.panel.proofs.{Calling.called-as}
 use Rattle.panel.proofs.Panel.write.Goals as goal

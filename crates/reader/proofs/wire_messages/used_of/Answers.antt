@@ -1,4 +1,3 @@
-use borrow.Author.Rules.{rules}
 use mathlib.Core.Path.{sym, ap}
 use Rattle.reader.specs.Messages.{used_of}
 use Rattle.reader.proofs.wire_messages.used_of.Goals as goal
