@@ -11,7 +11,7 @@ use std::thread;
 /// The program as `rt` builds it.
 fn bench() -> Command {
     let program = below_root("crates/bench/out/bench");
-    assert!(program.exists(), "no {}: run `rt run bench` first", program.display());
+    assert!(program.exists(), "no {}: run `rt run` in crates/bench first", program.display());
     Command::new(program)
 }
 

@@ -28,8 +28,8 @@ in-form-only κs a x y e f p q = p ∙ sym q
 pub write-only : OneResult 0 write-kinds.ps write-kinds.r write.Post
 write-only κs a x y e f p q = p ∙ sym q
 
-pub read_only : OneResult 0 read-kinds.ps read-kinds.r read.Post
-read_only κs a x y e f p q = p ∙ sym q
+pub read-only : OneResult 0 read-kinds.ps read-kinds.r read.Post
+read-only κs a x y e f p q = p ∙ sym q
 
 pub deliver-only : OneResult 0 deliver-kinds.ps deliver-kinds.r deliver.Post
 deliver-only κs a x y e f p q = p ∙ sym q

@@ -53,8 +53,8 @@ after-proceed-from-only κs a x y e f p q = p ∙ sym q
 pub write-only : OneOutcome 3 write-kinds.ps write-kinds.r {A = Area} (λ κs e. record { receivers = e.1.1.0.now; kinds = e.1.1.1.0.now; values = e.1.1.1.1.0.now }) write.Post
 write-only κs a x y e f p q = (ap (λ (c : Called). c.outcome) (p ∙ sym q), ap (λ (c : Called). c.area) (p ∙ sym q))
 
-pub read_only : OneOutcome 3 read-kinds.ps read-kinds.r {A = Area} (λ κs e. record { receivers = e.1.0.now; kinds = e.1.1.0.now; values = e.1.1.1.0.now }) read.Post
-read_only κs a x y e f p q = (ap (λ (c : Called). c.outcome) (p ∙ sym q), ap (λ (c : Called). c.area) (p ∙ sym q))
+pub read-only : OneOutcome 3 read-kinds.ps read-kinds.r {A = Area} (λ κs e. record { receivers = e.1.0.now; kinds = e.1.1.0.now; values = e.1.1.1.0.now }) read.Post
+read-only κs a x y e f p q = (ap (λ (c : Called). c.outcome) (p ∙ sym q), ap (λ (c : Called). c.area) (p ∙ sym q))
 
 pub write-from-only : OneOutcome 3 write-from-kinds.ps write-from-kinds.r {A = Area} (λ κs e. record { receivers = e.1.1.1.1.0.now; kinds = e.1.1.1.1.1.0.now; values = e.1.1.1.1.1.1.0.now }) write-from.Post
 write-from-only κs a x y e f p q = (ap (λ (c : Called). c.outcome) (p ∙ sym q), ap (λ (c : Called). c.area) (p ∙ sym q))
