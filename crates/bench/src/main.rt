@@ -23,7 +23,7 @@ fn output_area() -> [u8; 2799452]
 }
 
 // What reading came to: whether all of it was read, and how many bytes stand at the front of the area.
-#[derive(Drop)]
+#[derive(Clone, Copy)]
 struct Input {
     whole: bool,
     length: usize,

@@ -152,7 +152,7 @@ pub extern "C" fn compared_panel_write(
     values: &mut [u32],
     out: &mut [u8],
 ) -> usize
-    ensures { record { count = result; area = record { receivers = receivers.exit.now; kinds = kinds.new; values = values.new }; out = out.new } ≡ reported out.old (called (panel_of (panel_from tables.now)) (write v) (record { receivers = receivers.entry.now; kinds = kinds.old; values = values.old })) }
+    ensures { record { count = result; area = record { receivers = receivers.new; kinds = kinds.new; values = values.new }; out = out.new } ≡ reported out.old (called (panel_of (panel_from tables.now)) (write v) (record { receivers = receivers.old; kinds = kinds.old; values = values.old })) }
 {
     let p = panel_of(tables);
     let o = p.write(v, receivers, kinds, values);
@@ -167,7 +167,7 @@ pub extern "C" fn compared_panel_read(
     values: &mut [u32],
     out: &mut [u8],
 ) -> usize
-    ensures { record { count = result; area = record { receivers = receivers.exit.now; kinds = kinds.new; values = values.new }; out = out.new } ≡ reported out.old (called (panel_of (panel_from tables.now)) read (record { receivers = receivers.entry.now; kinds = kinds.old; values = values.old })) }
+    ensures { record { count = result; area = record { receivers = receivers.new; kinds = kinds.new; values = values.new }; out = out.new } ≡ reported out.old (called (panel_of (panel_from tables.now)) read (record { receivers = receivers.old; kinds = kinds.old; values = values.old })) }
 {
     let p = panel_of(tables);
     let o = p.read(receivers, kinds, values);
@@ -185,7 +185,7 @@ pub extern "C" fn compared_panel_write_from(
     values: &mut [u32],
     out: &mut [u8],
 ) -> usize
-    ensures { record { count = result; area = record { receivers = receivers.exit.now; kinds = kinds.new; values = values.new }; out = out.new } ≡ reported out.old (called (panel_of (panel_from tables.now)) (write_from j (not (eqb bit 0)) v) (record { receivers = receivers.entry.now; kinds = kinds.old; values = values.old })) }
+    ensures { record { count = result; area = record { receivers = receivers.new; kinds = kinds.new; values = values.new }; out = out.new } ≡ reported out.old (called (panel_of (panel_from tables.now)) (write_from j (not (eqb bit 0)) v) (record { receivers = receivers.old; kinds = kinds.old; values = values.old })) }
 {
     let p = panel_of(tables);
     let o = p.write_from(j, bit != 0, v, receivers, kinds, values);
@@ -201,7 +201,7 @@ pub extern "C" fn compared_panel_read_from(
     values: &mut [u32],
     out: &mut [u8],
 ) -> usize
-    ensures { record { count = result; area = record { receivers = receivers.exit.now; kinds = kinds.new; values = values.new }; out = out.new } ≡ reported out.old (called (panel_of (panel_from tables.now)) (read_from j) (record { receivers = receivers.entry.now; kinds = kinds.old; values = values.old })) }
+    ensures { record { count = result; area = record { receivers = receivers.new; kinds = kinds.new; values = values.new }; out = out.new } ≡ reported out.old (called (panel_of (panel_from tables.now)) (read_from j) (record { receivers = receivers.old; kinds = kinds.old; values = values.old })) }
 {
     let p = panel_of(tables);
     let o = p.read_from(j, receivers, kinds, values);
@@ -217,7 +217,7 @@ pub extern "C" fn compared_panel_proceed_from(
     values: &mut [u32],
     out: &mut [u8],
 ) -> usize
-    ensures { record { count = result; area = record { receivers = receivers.exit.now; kinds = kinds.new; values = values.new }; out = out.new } ≡ reported out.old (called (panel_of (panel_from tables.now)) (proceed_from j) (record { receivers = receivers.entry.now; kinds = kinds.old; values = values.old })) }
+    ensures { record { count = result; area = record { receivers = receivers.new; kinds = kinds.new; values = values.new }; out = out.new } ≡ reported out.old (called (panel_of (panel_from tables.now)) (proceed_from j) (record { receivers = receivers.old; kinds = kinds.old; values = values.old })) }
 {
     let p = panel_of(tables);
     let o = p.proceed_from(j, receivers, kinds, values);

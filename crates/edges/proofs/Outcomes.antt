@@ -1,5 +1,5 @@
--- Each contract of this crate allows one outcome. A function that takes a slice of structs has no plain reading by the checker: here the
--- clause of each event is read off (`-says`), and all five allow one outcome and one slice (`leaves-only`).
+-- Each contract of this crate allows one outcome. The clause of each event, which takes a slice of structs, is read off (`-says`), and
+-- all five allow one outcome and one slice (`leaves-only`).
 -- Assumes nothing.
 use mathlib.Core.{Bool.Bool, List.List, Path.{◌≡◌, refl, sym, ap, ◌∙◌}}
 use Prim.Native.Nat.{ℕ}

@@ -10,7 +10,7 @@ use Rattle.house.proofs.in_form.Kinds as in-form-kinds
 use Rattle.house.proofs.in_form.Reads as in-form
 use Rattle.house.proofs.first_in_flight.Kinds as first-in-flight-kinds
 use Rattle.house.proofs.first_in_flight.Reads as first-in-flight
-use Rattle.house.proofs.whole.Kinds as whole_Kinds
+use Rattle.house.proofs.whole.Kinds as whole-kinds
 use Rattle.house.proofs.whole.Reads as whole
 
 pub downs-only : OneResult 0 downs-kinds.ps downs-kinds.r downs.Post
@@ -25,5 +25,5 @@ in-form-only κs a x y e f p q = p ∙ sym q
 pub first-in-flight-only : OneResult 0 first-in-flight-kinds.ps first-in-flight-kinds.r first-in-flight.Post
 first-in-flight-only κs a x y e f p q = p ∙ sym q
 
-pub whole-only : OneResult 0 whole_Kinds.ps whole_Kinds.r whole.Post
+pub whole-only : OneResult 0 whole-kinds.ps whole-kinds.r whole.Post
 whole-only κs a x y e f p q = p.0 ∙ sym q.0

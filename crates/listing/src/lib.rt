@@ -142,6 +142,9 @@ fn put_lines(schedule: &[u8], out: &mut [u8]) -> usize
 
 const LONGEST: usize = 2799452;
 
+// The most bytes that a schedule may have.
+const MOST: usize = 65536;
+
 pub fn listing(schedule: &[u8], out: &mut [u8]) -> Listed
     ensures out_after { record { answer = result; area = out.new } ≡ listing schedule.now out.old }
     ensures within { result.length ≤ length out.old }
@@ -152,7 +155,7 @@ pub fn listing(schedule: &[u8], out: &mut [u8]) -> Listed
             length: 0,
         };
     }
-    if 65536 < schedule.len() {
+    if MOST < schedule.len() {
         let line = text::too_long();
         let n = put_all(out, 0, &line);
         return Listed {

@@ -48,7 +48,7 @@ pub fn no_sends() -> Sends
 
 // How many messages the three slices have places for.
 pub fn room_of(receivers: &[u8], kinds: &[u8], values: &[u32]) -> usize
-    ensures { result ≡ room_of (record { receivers = receivers.entry.now; kinds = kinds.now; values = values.now }) }
+    ensures { result ≡ room_of (record { receivers = receivers.now; kinds = kinds.now; values = values.now }) }
 {
     least(receivers.len(), least(kinds.len(), values.len()))
 }
@@ -73,7 +73,7 @@ fn put_if(
     values: &mut [u32],
 ) -> usize
     requires { at < 1000 }
-    ensures { Further (record { count = at; area = record { receivers = receivers.entry.now; kinds = kinds.old; values = values.old } }) (ite b (record { to = j; kind = k; value = v } ∷ []) []) (record { count = result; area = record { receivers = receivers.exit.now; kinds = kinds.new; values = values.new } }) }
+    ensures { Further (record { count = at; area = record { receivers = receivers.old; kinds = kinds.old; values = values.old } }) (ite b (record { to = j; kind = k; value = v } ∷ []) []) (record { count = result; area = record { receivers = receivers.new; kinds = kinds.new; values = values.new } }) }
 {
     if b {
         codec::put_byte(receivers, at, j);
@@ -92,7 +92,7 @@ fn lay_cast(
     values: &mut [u32],
 ) -> usize
     requires { from < 900 }
-    ensures { Further (record { count = from; area = record { receivers = receivers.entry.now; kinds = kinds.old; values = values.old } }) (cast_of c) (record { count = result; area = record { receivers = receivers.exit.now; kinds = kinds.new; values = values.new } }) }
+    ensures { Further (record { count = from; area = record { receivers = receivers.old; kinds = kinds.old; values = values.old } }) (cast_of c) (record { count = result; area = record { receivers = receivers.new; kinds = kinds.new; values = values.new } }) }
 {
     let to = c.to;
     let mut at = from;
@@ -122,7 +122,7 @@ fn lay_proceeds(
     values: &mut [u32],
 ) -> usize
     requires { from < 700 }
-    ensures { Further (record { count = from; area = record { receivers = receivers.entry.now; kinds = kinds.old; values = values.old } }) (proceeds_to m peer) (record { count = result; area = record { receivers = receivers.exit.now; kinds = kinds.new; values = values.new } }) }
+    ensures { Further (record { count = from; area = record { receivers = receivers.old; kinds = kinds.old; values = values.old } }) (proceeds_to m peer) (record { count = result; area = record { receivers = receivers.new; kinds = kinds.new; values = values.new } }) }
 {
     let mut at = from;
     let mut i = 0;
@@ -135,7 +135,7 @@ fn lay_proceeds(
 
 // Lays what s sends into the first places, and says how many messages that is. A place past a slice's end is not written.
 pub fn lay(s: Sends, receivers: &mut [u8], kinds: &mut [u8], values: &mut [u32]) -> usize
-    ensures { record { count = result; area = record { receivers = receivers.exit.now; kinds = kinds.new; values = values.new } } ≡ laying s (record { receivers = receivers.entry.now; kinds = kinds.old; values = values.old }) }
+    ensures { record { count = result; area = record { receivers = receivers.new; kinds = kinds.new; values = values.new } } ≡ laying s (record { receivers = receivers.old; kinds = kinds.old; values = values.old }) }
 {
     let own = s.own;
     let held = s.held;

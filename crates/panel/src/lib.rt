@@ -67,7 +67,7 @@ fn next_of(d: Done) -> Next
 }
 
 fn tell(d: Done, receivers: &mut [u8], kinds: &mut [u8], values: &mut [u32]) -> Outcome
-    ensures { record { outcome = result; area = record { receivers = receivers.exit.now; kinds = kinds.new; values = values.new } } ≡ told d (record { receivers = receivers.entry.now; kinds = kinds.old; values = values.old }) }
+    ensures { record { outcome = result; area = record { receivers = receivers.new; kinds = kinds.new; values = values.new } } ≡ told d (record { receivers = receivers.old; kinds = kinds.old; values = values.old }) }
 {
     let tables = d.tables;
     let answer = d.answer;
@@ -147,7 +147,7 @@ impl Panel {
         kinds: &mut [u8],
         values: &mut [u32],
     ) -> Outcome
-        ensures { record { outcome = result; area = record { receivers = receivers.exit.now; kinds = kinds.new; values = values.new } } ≡ called self (write v) (record { receivers = receivers.entry.now; kinds = kinds.old; values = values.old }) }
+        ensures { record { outcome = result; area = record { receivers = receivers.new; kinds = kinds.new; values = values.new } } ≡ called self (write v) (record { receivers = receivers.old; kinds = kinds.old; values = values.old }) }
     {
         let room = messages::room_of(receivers, kinds, values);
         let t = self.tables;
@@ -155,7 +155,7 @@ impl Panel {
     }
 
     pub fn read(self, receivers: &mut [u8], kinds: &mut [u8], values: &mut [u32]) -> Outcome
-        ensures { record { outcome = result; area = record { receivers = receivers.exit.now; kinds = kinds.new; values = values.new } } ≡ called self read (record { receivers = receivers.entry.now; kinds = kinds.old; values = values.old }) }
+        ensures { record { outcome = result; area = record { receivers = receivers.new; kinds = kinds.new; values = values.new } } ≡ called self read (record { receivers = receivers.old; kinds = kinds.old; values = values.old }) }
     {
         let room = messages::room_of(receivers, kinds, values);
         let t = self.tables;
@@ -171,7 +171,7 @@ impl Panel {
         kinds: &mut [u8],
         values: &mut [u32],
     ) -> Outcome
-        ensures { record { outcome = result; area = record { receivers = receivers.exit.now; kinds = kinds.new; values = values.new } } ≡ called self (write_from j bit v) (record { receivers = receivers.entry.now; kinds = kinds.old; values = values.old }) }
+        ensures { record { outcome = result; area = record { receivers = receivers.new; kinds = kinds.new; values = values.new } } ≡ called self (write_from j bit v) (record { receivers = receivers.old; kinds = kinds.old; values = values.old }) }
     {
         let room = messages::room_of(receivers, kinds, values);
         let t = self.tables;
@@ -190,7 +190,7 @@ impl Panel {
         kinds: &mut [u8],
         values: &mut [u32],
     ) -> Outcome
-        ensures { record { outcome = result; area = record { receivers = receivers.exit.now; kinds = kinds.new; values = values.new } } ≡ called self (read_from j) (record { receivers = receivers.entry.now; kinds = kinds.old; values = values.old }) }
+        ensures { record { outcome = result; area = record { receivers = receivers.new; kinds = kinds.new; values = values.new } } ≡ called self (read_from j) (record { receivers = receivers.old; kinds = kinds.old; values = values.old }) }
     {
         let room = messages::room_of(receivers, kinds, values);
         let t = self.tables;
@@ -204,7 +204,7 @@ impl Panel {
         kinds: &mut [u8],
         values: &mut [u32],
     ) -> Outcome
-        ensures { record { outcome = result; area = record { receivers = receivers.exit.now; kinds = kinds.new; values = values.new } } ≡ called self (proceed_from j) (record { receivers = receivers.entry.now; kinds = kinds.old; values = values.old }) }
+        ensures { record { outcome = result; area = record { receivers = receivers.new; kinds = kinds.new; values = values.new } } ≡ called self (proceed_from j) (record { receivers = receivers.old; kinds = kinds.old; values = values.old }) }
     {
         let room = messages::room_of(receivers, kinds, values);
         let t = self.tables;

@@ -11,7 +11,7 @@ use Rattle.parts.proofs.actor.Reads as actor
 use Rattle.parts.proofs.sender.Kinds as sender-kinds
 use Rattle.parts.proofs.sender.Reads as sender
 use Rattle.parts.proofs.code_of.Kinds as code-of-kinds
-use Rattle.parts.proofs.code_of.Reads as code_of_lem
+use Rattle.parts.proofs.code_of.Reads as code-of
 use Rattle.parts.proofs.act.Kinds as act-kinds
 use Rattle.parts.proofs.act.Reads as act
 
@@ -27,7 +27,7 @@ actor-only κs a x y e f p q = p.0 ∙ sym q.0
 pub sender-only : OneResult 0 sender-kinds.ps sender-kinds.r sender.Post
 sender-only κs a x y e f p q = p.0 ∙ sym q.0
 
-pub code-of-only : OneResult 0 code-of-kinds.ps code-of-kinds.r code_of_lem.Post
+pub code-of-only : OneResult 0 code-of-kinds.ps code-of-kinds.r code-of.Post
 code-of-only κs a x y e f p q = p ∙ sym q
 
 pub act-only : OneResult 0 act-kinds.ps act-kinds.r act.Post

@@ -1,5 +1,5 @@
--- Each contract of this crate allows one outcome. `new` and `next` give or take a struct that holds a reference, and of such a
--- function the checker keeps no plain reading: here each one's clause is read off (`-says`), and allows one outcome (`-only`).
+-- Each contract of this crate allows one outcome. `new` and `next` give or take a struct that holds a reference: each one's clause
+-- is read off (`-says`), and allows one outcome (`-only`).
 -- Assumes nothing.
 use mathlib.Core.{List.List, Path.{◌≡◌, refl, sym, ap, ◌∙◌}}
 use Prim.Native.Nat.{ℕ}

@@ -4,7 +4,7 @@ ghost use Rattle.reader.specs.Records.{Next, stepped, started, next};
 
 use schedule::Read;
 
-#[derive(Drop)]
+#[derive(Clone, Copy)]
 pub struct Reader<'a> {
     pub schedule: &'a [u8],
     pub at: usize,

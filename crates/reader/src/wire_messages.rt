@@ -4,7 +4,7 @@ ghost use Rattle.reader.specs.Messages.{Next, stepped, started, next, used_of};
 
 use wire::Taken;
 
-#[derive(Drop)]
+#[derive(Clone, Copy)]
 pub struct Reader<'a> {
     pub bytes: &'a [u8],
     pub at: usize,

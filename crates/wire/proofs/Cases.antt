@@ -75,6 +75,9 @@ module _ (s : List ℕ) where
       ap message_of (item-whole wire s 0 (omega arith) (known (get_or s 0 0) (omega arith)) (omega (arith, size-valued _ k)))
       ∙ simp (size-valued _ k, lt-ltb _ _ k)
 
+-- by which the check itself finds that four bytes are no whole WRITE
+pub ruleset cut = (reading-cut)
+
 -- ---- writing
 
 pub sendable-valued : (k v : ℕ) → k < 2 → sendable k v ≡ true

@@ -26,6 +26,7 @@ pub fn size_of(kind: u8) -> usize
     if kind < 2 { 5 } else { 1 }
 }
 
+#[tactic(auto, using(crate::proofs::Cases::cut))]
 pub fn read_message(bytes: &[u8]) -> Taken
     ensures { result ≡ reading bytes.now }
 {

@@ -12,14 +12,14 @@ slice_bounds-put_all-end c = sym (too-long-9 c.too_long-line.ensures)
 pub put_all-n-requires : goal.put_all-n-requires
 put_all-n-requires c = omega (arith, too-long-9 c.too_long-line.ensures)
 
-pub returns-then-schedule-gt65536 : goal.returns-then-schedule-gt65536
-returns-then-schedule-gt65536 c = record {
-  out_after = done _ _ c.if-out-lt-LONGEST.false (c.too_long-line.ensures ∙ sym (too_long_lem _ c.if-schedule-gt65536.true)) c.put_all-n.ensures;
+pub returns-then-schedule-gt-MOST : goal.returns-then-schedule-gt-MOST
+returns-then-schedule-gt-MOST c = record {
+  out_after = done _ _ c.if-out-lt-LONGEST.false (c.too_long-line.ensures ∙ sym (too_long_lem _ c.if-schedule-gt-MOST.true)) c.put_all-n.ensures;
   within = omega (arith, too-long-9 c.too_long-line.ensures, c.put_all-n.ensures.place, c.if-out-lt-LONGEST.false);
 }
 
 pub returns : goal.returns
 returns c = record {
-  out_after = done _ _ c.if-out-lt-LONGEST.false (sym (not-too-long _ c.if-schedule-gt65536.false)) c.put_lines-n.ensures.0;
+  out_after = done _ _ c.if-out-lt-LONGEST.false (sym (not-too-long _ c.if-schedule-gt-MOST.false)) c.put_lines-n.ensures.0;
   within = omega (arith, c.put_lines-n.ensures.1, c.if-out-lt-LONGEST.false);
 }

@@ -2,7 +2,7 @@ use Prim.Native.Nat.{ℕ}
 use lib.ListN.{get_or}
 use mathlib.Core.Path.{sym, ◌∙◌, ap}
 use native.Mathlib.Omega.{arith}
-use Rattle.wire.proofs.Cases.{reading-none, reading-unknown, reading-bare, reading-cut, reading-valued}
+use Rattle.wire.proofs.Cases.{reading-none, reading-unknown, reading-bare, reading-valued}
 use Rattle.wire.specs.declared.Taken.TheVariants as Read
 use Rattle.wire.proofs.read_message.Goals as goal
 
@@ -15,8 +15,5 @@ returns-then-kind-ge4 c = sym (reading-unknown _ (omega arith) c.if-kind-ge4.tru
 pub returns-then-kind-ge2 : goal.returns-then-kind-ge2
 returns-then-kind-ge2 c = sym (reading-bare _ (omega arith) c.if-kind-ge2.true c.if-kind-ge4.false)
 
-pub returns-then-bytes-lt5 : goal.returns-then-bytes-lt5
-returns-then-bytes-lt5 c = sym (reading-cut _ (omega arith) c.if-kind-ge2.false c.if-bytes-lt5.true)
-
 pub returns : goal.returns
-returns c = ap (λ (v : ℕ). Read.Message (get_or c.args.bytes.now 0 0) v 5) c.word_at-value.ensures ∙ sym (reading-valued _ c.if-kind-ge2.false c.if-bytes-lt5.false)
+returns c = ap (λ (v : ℕ). Read.Message (get_or c.args.bytes.now 0 0) v 5) c.word_at-value.ensures ∙ sym (reading-valued _ c.if-kind-ge2.false (omega arith))
