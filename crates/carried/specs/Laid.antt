@@ -2,7 +2,7 @@
 -- Assumes nothing.
 use Rattle.std.specs.Prelude.{ℕ}
 use mathlib.Core.{List.List, Path.◌≡◌}
-use Rattle.std.proofs.lemmas.List.Edits.{sets}
+use lib.Seq.{sets}
 
 pub record Laid (l : List ℕ) (i : ℕ) (xs m : List ℕ) : Type 0 where
   pub is : m ≡ sets l i xs

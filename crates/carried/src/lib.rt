@@ -3,7 +3,7 @@
 #![tactic(auto)]
 
 ghost use Rattle.std.specs.Prelude.{◌≡◌, ℕ, ◌+◌, ◌*◌, ◌<◌, [], ◌∷◌};
-ghost use Rattle.std.proofs.lemmas.List.Edits.{sets};
+ghost use lib.Seq.{sets};
 ghost use Rattle.basics.specs.Below.{one_if, list_below};
 ghost use Rattle.codec.specs.Numbers.{number_at};
 ghost use Rattle.carried.specs.Laid.{Laid};

@@ -3,7 +3,7 @@
 #![tactic(auto)]
 
 ghost use Rattle.std.specs.Prelude.{◌≡◌, ◌<◌, get_or, set};
-ghost use Rattle.std.proofs.lemmas.List.Edits.{sets};
+ghost use lib.Seq.{sets};
 ghost use Rattle.codec.specs.Numbers.{bytes_of, number_at};
 
 fn wide(x: u8) -> u32

@@ -2,7 +2,7 @@
 -- and, behind it, the answer: its case, its number, its value.
 -- Assumes nothing.
 use Rattle.std.specs.Prelude.{ℕ, List, ◌∷◌, ◌++◌}
-use Rattle.std.proofs.lemmas.List.Edits.{sets}
+use lib.Seq.{sets}
 use Rattle.codec.specs.Numbers.{bytes_of}
 use Rattle.messages.specs.Area.{Area}
 use Rattle.events.specs.declared.Answer.{Answer, TheVariants.{Refused, Nothing, Wrote, Gave}}

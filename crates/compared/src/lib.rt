@@ -8,7 +8,7 @@ mod listings;
 mod networks;
 
 ghost use Rattle.std.specs.Prelude.{◌≡◌, not, ◌<◌, ◌∷◌, eqb};
-ghost use Rattle.std.proofs.lemmas.List.Edits.{sets};
+ghost use lib.Seq.{sets};
 ghost use Rattle.basics.specs.Below.{one_if};
 ghost use Rattle.codec.specs.Numbers.{bytes_of};
 ghost use Rattle.messages.specs.Area.{Area};

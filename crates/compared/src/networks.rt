@@ -1,6 +1,6 @@
 // A network's calls: each takes the tables as bytes (`conveyed`), and leaves in `out` the next network and, behind it, the answer.
 ghost use Rattle.std.specs.Prelude.{◌≡◌};
-ghost use Rattle.std.proofs.lemmas.List.Edits.{sets};
+ghost use lib.Seq.{sets};
 ghost use Rattle.basics.specs.Below.{one_if};
 ghost use Rattle.house.specs.NetForm.{net_form};
 ghost use Rattle.steps.specs.Steps.{written, begun, delivered, lost};

@@ -3,7 +3,7 @@
 #![tactic(auto)]
 
 ghost use Rattle.std.specs.Prelude.{◌≡◌, ℕ, ◌+◌, ◌*◌, ◌<◌, min, [], ◌∷◌};
-ghost use Rattle.std.proofs.lemmas.List.Edits.{sets};
+ghost use lib.Seq.{sets};
 ghost use Rattle.basics.specs.Below.{one_if, list_below};
 ghost use Rattle.carried.specs.Laid.{Laid};
 ghost use Rattle.carried.specs.Panels.{hold_from, hold_bytes, panel_bytes};

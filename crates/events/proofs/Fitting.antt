@@ -134,7 +134,7 @@ sends-fit p room (write_from j b v) g h =
     let m = may-write-from p room j b h in
     let at : PeerPlace p (j - 1) = peer-place p room j g.form m.0 in
     ite-case (λ (q : Ruled). length (messages_of q.sends) ≤ 107) _ _ _
-    (λ _. take-fits p (j - 1) v g.form at.seven g.shape.w-long at.other)
+    (λ _. take-fits p (j - 1) v g.form at.seven g.shape.w_long at.other)
     (λ _. small (hold_rule p (j - 1) v).sends (hold-small p (j - 1) v))
 sends-fit p room (read_from j) g h = small (read_from_rule p (j - 1)).sends (read-from-small p (j - 1))
 sends-fit p room (proceed_from j) g h = small (proceed_rule p (j - 1)).sends (proceed-small p (j - 1))

@@ -38,10 +38,10 @@ with-operation p o g h =
         operation-form = h;
       };
       shape = record {
-        w-long = g.shape.w-long;
-        r-long = g.shape.r-long;
-        history-long = g.shape.history-long;
-        held-long = g.shape.held-long;
+        w_long = g.shape.w_long;
+        r_long = g.shape.r_long;
+        history_long = g.shape.history_long;
+        held_long = g.shape.held_long;
         lines_long = g.shape.lines_long;
       };
     }

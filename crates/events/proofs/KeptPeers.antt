@@ -40,7 +40,7 @@ module _ (p : Tables) (s : Shaped p) (f : InForm p) (k : ℕ) (at : PeerPlace p 
 
     one_more : r_at r' k ≡ r_at p.r k + 1
     unfolding r'
-    one_more = r-set p.r k _ (omega (arith, at.seven, s.r-long))
+    one_more = r-set p.r k _ (omega (arith, at.seven, s.r_long))
 
     own-stays : r_at r' (own_place p) ≡ own_r p
     unfolding r'
@@ -74,10 +74,10 @@ module _ (p : Tables) (s : Shaped p) (f : InForm p) (k : ℕ) (at : PeerPlace p 
         operation-form = operation-raised p.operation _ (own_w p) (own_r p) (own_w p) (r_at r' (own_place p)) f.operation-form (omega arith) (omega (arith, own-stays));
       },
       record {
-        w-long = s.w-long;
-        r-long = length-kept p.r _ _ s.r-long;
-        history-long = s.history-long;
-        held-long = s.held-long;
+        w_long = s.w_long;
+        r_long = length-kept p.r _ _ s.r_long;
+        history_long = s.history_long;
+        held_long = s.held_long;
         lines_long = s.lines_long;
       },
     )
@@ -99,10 +99,10 @@ module _ (p : Tables) (s : Shaped p) (f : InForm p) (k : ℕ) (at : PeerPlace p 
       operation-form = f.operation-form;
     },
     record {
-      w-long = s.w-long;
-      r-long = s.r-long;
-      history-long = s.history-long;
-      held-long = s.held-long;
+      w_long = s.w_long;
+      r_long = s.r_long;
+      history_long = s.history_long;
+      held_long = s.held_long;
       lines_long = lines-kept p.lines k l s.lines_long long;
     },
   )
@@ -133,10 +133,10 @@ module _ (p : Tables) (s : Shaped p) (f : InForm p) (k : ℕ) (at : PeerPlace p 
       operation-form = f.operation-form;
     },
     record {
-      w-long = s.w-long;
-      r-long = s.r-long;
-      history-long = s.history-long;
-      held-long = length-kept p.held _ _ s.held-long;
+      w_long = s.w_long;
+      r_long = s.r_long;
+      history_long = s.history_long;
+      held_long = length-kept p.held _ _ s.held_long;
       lines_long = s.lines_long;
     },
   )
@@ -146,7 +146,7 @@ module _ (p : Tables) (s : Shaped p) (f : InForm p) (k : ℕ) (at : PeerPlace p 
           subst (λ (i : ℕ). PlaceForm p.n p.number i (w_at p.w i) (own_w p) (r_at p.r i) (own_r p) (hold_at (set p.held k h) i) (line_at p.lines i) (at_writer p))
           (sym e)
           (subst (λ (x : Hold). PlaceForm p.n p.number k (w_at p.w k) (own_w p) (r_at p.r k) (own_r p) x (line_at p.lines k) (at_writer p))
-          (sym (hold-set p.held k h (omega (arith, at.seven, s.held-long))))
+          (sym (hold-set p.held k h (omega (arith, at.seven, s.held_long))))
           (let o : PlaceOf p k = f.place k at.seven in
           place-peer p.n p.number k o _ _ _ _ _ _ at.number-other at.within o.w_below o.r_below g o.line))
       place j m (no e) =

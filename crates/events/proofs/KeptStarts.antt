@@ -29,7 +29,7 @@ module _ (p : Tables) (s : Shaped p) (f : InForm p) where
 
     grown : w_at w' (own_place p) ≡ own_w p + 1
     unfolding w'
-    grown = w-set p.w (own_place p) (record { 0 = own_w p + 1 }) (omega (arith, (own-place p f).2, s.w-long))
+    grown = w-set p.w (own_place p) (record { 0 = own_w p + 1 }) (omega (arith, (own-place p f).2, s.w_long))
 
     place-written : (j : ℕ) → j < 7 → Dec (j ≡ own_place p) → PlaceForm p.n p.number j (w_at w' j) (w_at w' (own_place p)) (r_at p.r j) (own_r p) (hold_at p.held j) (line_at p.lines j) (at_writer p)
     unfolding w'
@@ -54,10 +54,10 @@ module _ (p : Tables) (s : Shaped p) (f : InForm p) where
         operation-form = both_true lead (le-leb 1 (w_at w' (own_place p)) (omega (arith, grown)));
       },
       record {
-        w-long = length-kept p.w _ _ s.w-long;
-        r-long = s.r-long;
-        history-long = length-kept p.history _ _ s.history-long;
-        held-long = s.held-long;
+        w_long = length-kept p.w _ _ s.w_long;
+        r_long = s.r_long;
+        history_long = length-kept p.history _ _ s.history_long;
+        held_long = s.held_long;
         lines_long = s.lines_long;
       },
     )
@@ -70,7 +70,7 @@ module _ (p : Tables) (s : Shaped p) (f : InForm p) where
 
     counted : r_at r' (own_place p) ≡ own_r p + 1
     unfolding r'
-    counted = r-set p.r (own_place p) (record { 0 = own_r p + 1 }) (omega (arith, (own-place p f).2, s.r-long))
+    counted = r-set p.r (own_place p) (record { 0 = own_r p + 1 }) (omega (arith, (own-place p f).2, s.r_long))
 
     place_read : (j : ℕ) → j < 7 → Dec (j ≡ own_place p) → PlaceForm p.n p.number j (w_at p.w j) (own_w p) (r_at r' j) (r_at r' (own_place p)) (hold_at p.held j) (line_at p.lines j) (at_writer p)
     unfolding r'
@@ -95,10 +95,10 @@ module _ (p : Tables) (s : Shaped p) (f : InForm p) where
         operation-form = le-leb 1 (r_at r' (own_place p)) (omega (arith, counted));
       },
       record {
-        w-long = s.w-long;
-        r-long = length-kept p.r _ _ s.r-long;
-        history-long = s.history-long;
-        held-long = s.held-long;
+        w_long = s.w_long;
+        r_long = length-kept p.r _ _ s.r_long;
+        history_long = s.history_long;
+        held_long = s.held_long;
         lines_long = s.lines_long;
       },
     )

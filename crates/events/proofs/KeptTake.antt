@@ -21,9 +21,9 @@ module _ (p : Tables) (s : Shaped p) (f : InForm p) (k : ℕ) (at : PeerPlace p 
         w = p.w;
         history = p.history;
         held = p.held;
-        w-long = s.w-long;
-        history-long = s.history-long;
-        held-long = s.held-long;
+        w_long = s.w_long;
+        history_long = s.history_long;
+        held_long = s.held_long;
         peer = refl;
         others = λ j m n. refl;
         own-grows = omega arith;
@@ -103,10 +103,10 @@ module _ (p : Tables) (s : Shaped p) (f : InForm p) (k : ℕ) (at : PeerPlace p 
         operation-form = operation-raised p.operation _ (own_w p) (own_r p) (w_at b.w (own_place p)) (own_r p) f.operation-form b.own-grows (omega arith);
       },
       record {
-        w-long = b.w-long;
-        r-long = s.r-long;
-        history-long = b.history-long;
-        held-long = b.held-long;
+        w_long = b.w_long;
+        r_long = s.r_long;
+        history_long = b.history_long;
+        held_long = b.held_long;
         lines_long = lines-kept p.lines k l' s.lines_long (length_without l (leaving l (w_at b.w k)));
       },
     )

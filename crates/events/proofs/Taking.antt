@@ -22,9 +22,9 @@ pub record Stage (p : Tables) (k x : ℕ) : Type 0 where
   pub w : List WriteNo
   pub history : List ℕ
   pub held : List Hold
-  pub w-long : length w ≡ 7
-  pub history-long : length history ≡ 201
-  pub held-long : length held ≡ 7
+  pub w_long : length w ≡ 7
+  pub history_long : length history ≡ 201
+  pub held_long : length held ≡ 7
   pub peer : w_at w k ≡ x
   pub others : (j : ℕ) → j ≢ k → j ≢ own_place p → w_at w j ≡ w_at p.w j
   pub own-grows : own_w p ≤ w_at w (own_place p)
@@ -52,10 +52,10 @@ module _ (p : Tables) (k x : ℕ) (at : PeerPlace p k) (own : own_place p < 7) (
           w = w'';
           history = set a.history (w_at a.w (own_place p) + 1) v;
           held = a.held;
-          w-long = length-kept w' k y+ (length-kept a.w (own_place p) y+ a.w-long);
-          history-long = length-kept a.history _ v a.history-long;
-          held-long = a.held-long;
-          peer = w-set w' k y+ (omega (arith, at.seven, length-kept a.w (own_place p) y+ a.w-long)) ∙ ap (λ (n : ℕ). n + 1) (sym e);
+          w_long = length-kept w' k y+ (length-kept a.w (own_place p) y+ a.w_long);
+          history_long = length-kept a.history _ v a.history_long;
+          held_long = a.held_long;
+          peer = w-set w' k y+ (omega (arith, at.seven, length-kept a.w (own_place p) y+ a.w_long)) ∙ ap (λ (n : ℕ). n + 1) (sym e);
           others = λ j m n. w-set-ne w' k j y+ m ∙ w-set-ne a.w (own_place p) j y+ n ∙ a.others j m n;
           own-grows = omega (arith, own-now, a.own-grows);
           own-covers = omega (arith, own-now, e);
@@ -77,7 +77,7 @@ module _ (p : Tables) (k x : ℕ) (at : PeerPlace p k) (own : own_place p < 7) (
       w'' = set w' k y+
 
       own-now : w_at w'' (own_place p) ≡ w_at a.w (own_place p) + 1
-      own-now = w-set-ne w' k (own_place p) y+ (λ h. at.other (sym h)) ∙ w-set a.w (own_place p) y+ (omega (arith, a.w-long))
+      own-now = w-set-ne w' k (own_place p) y+ (λ h. at.other (sym h)) ∙ w-set a.w (own_place p) y+ (omega (arith, a.w_long))
 
   -- lines 16 to 18: nothing is learned
   follows : x < w_at a.w (own_place p) → (q : Took) → q.tables ≡ reached (at_stage a) k (w_at a.w k + 1) → Taken p k x a q
@@ -88,10 +88,10 @@ module _ (p : Tables) (k x : ℕ) (at : PeerPlace p k) (own : own_place p < 7) (
           w = w';
           history = a.history;
           held = a.held;
-          w-long = length-kept a.w k x+ a.w-long;
-          history-long = a.history-long;
-          held-long = a.held-long;
-          peer = w-set a.w k x+ (omega (arith, at.seven, a.w-long)) ∙ ap (λ (n : ℕ). n + 1) a.peer;
+          w_long = length-kept a.w k x+ a.w_long;
+          history_long = a.history_long;
+          held_long = a.held_long;
+          peer = w-set a.w k x+ (omega (arith, at.seven, a.w_long)) ∙ ap (λ (n : ℕ). n + 1) a.peer;
           others = λ j m n. w-set-ne a.w k j x+ m ∙ a.others j m n;
           own-grows = omega (arith, own_same, a.own-grows);
           own-covers = omega (arith, own_same);
@@ -144,9 +144,9 @@ module _ (p : Tables) (k x : ℕ) (at : PeerPlace p k) (own : own_place p < 7) (
         w = a.w;
         history = a.history;
         held = set a.held k no_hold;
-        w-long = a.w-long;
-        history-long = a.history-long;
-        held-long = length-kept a.held k no_hold a.held-long;
+        w_long = a.w_long;
+        history_long = a.history_long;
+        held_long = length-kept a.held k no_hold a.held_long;
         peer = a.peer;
         others = a.others;
         own-grows = a.own-grows;
@@ -161,7 +161,7 @@ module _ (p : Tables) (k x : ℕ) (at : PeerPlace p k) (own : own_place p < 7) (
   held-taken =
       ite-case (λ (q : Took). HeldTaken p k x a q) (hold_at a.held k).full _ _
       (λ e. let t : Taken p k x emptied (take (at_stage emptied) k (hold_at a.held k).value) = taken p k x at own emptied (hold_at a.held k).value in
-      let none : hold_at t.next.held k ≡ no_hold = ap (λ (hs : List Hold). hold_at hs k) t.same-holds ∙ hold-set a.held k no_hold (omega (arith, at.seven, a.held-long)) in
+      let none : hold_at t.next.held k ≡ no_hold = ap (λ (hs : List Hold). hold_at hs k) t.same-holds ∙ hold-set a.held k no_hold (omega (arith, at.seven, a.held_long)) in
       record {
         upto = x + 1;
         next = t.next;

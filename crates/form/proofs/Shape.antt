@@ -1,4 +1,4 @@
--- The lengths of a panel's tables. In the code they are the arrays' types; in the definitions a law that reads a store back asks for them.
+-- The laws of the lengths of a panel's tables (specs/Shape): a store keeps them, and a fresh panel has them.
 -- Assumes nothing.
 use mathlib.Core.{List.List, Path.{◌≡◌, ap, ◌∙◌}}
 use Prim.Native.Nat.{ℕ, ◌<◌}
@@ -7,17 +7,7 @@ use lib.ListN.{length, set, replicate, length-replicate, length-set, get_or-repl
 use Rattle.tables.specs.{Places.{line_at, no_write, no_read, no_hold, no_line}, declared.Line.Line}
 use Rattle.form.specs.{Form.{fresh, empty_line}, declared.Tables.Tables}
 use Rattle.form.proofs.Stores.{line_set, line-set-ne}
-
-pub record LinesLong (ls : List Line) : Type 0 where
-  pub seven : length ls ≡ 7
-  pub hundred : (j : ℕ) → j < 7 → length (line_at ls j).sn ≡ 100
-
-pub record Shaped (p : Tables) : Type 0 where
-  pub w-long : length p.w ≡ 7
-  pub r-long : length p.r ≡ 7
-  pub history-long : length p.history ≡ 201
-  pub held-long : length p.held ≡ 7
-  pub lines_long : LinesLong p.lines
+pub use Rattle.form.specs.Shape.{LinesLong, Shaped}
 
 pub length-kept {ℓ} : {A : Type ℓ} (xs : List A) {n : ℕ} (k : ℕ) (x : A) → length xs ≡ n → length (set xs k x) ≡ n
 length-kept xs k x h = length-set xs k x ∙ h
@@ -35,10 +25,10 @@ pub fresh-shaped : (n t writer number v : ℕ) → Shaped (fresh n t writer numb
 unfolding fresh empty_line
 fresh-shaped n t writer number v =
     record {
-      w-long = length-replicate 7 no_write;
-      r-long = length-replicate 7 no_read;
-      history-long = length-kept (replicate 201 0) 0 v (length-replicate {A = ℕ} 201 0);
-      held-long = length-replicate 7 no_hold;
+      w_long = length-replicate 7 no_write;
+      r_long = length-replicate 7 no_read;
+      history_long = length-kept (replicate 201 0) 0 v (length-replicate {A = ℕ} 201 0);
+      held_long = length-replicate 7 no_hold;
       lines_long = record {
         seven = length-replicate 7 empty_line;
         hundred = λ j h. ap (λ (x : Line). length x.sn) (get_or-replicate 7 j empty_line no_line h) ∙ length-replicate 100 no_write;

@@ -1,3 +1,4 @@
 pub mod Setting
 pub mod Form
 pub mod Asked
+pub mod Shape

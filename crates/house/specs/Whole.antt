@@ -2,7 +2,7 @@
 -- for them.
 -- Assumes nothing.
 use Rattle.std.specs.Prelude.{ℕ, ◌<◌, ◌≡◌, length}
-use Rattle.form.proofs.Shape.{Shaped}
+use Rattle.form.specs.Shape.{Shaped}
 use Rattle.house.specs.{Places.{tables_at, row_at}, declared.Network.Network}
 
 pub record Whole (s : Network) : Type 0 where

@@ -5,7 +5,7 @@
 ghost use Rattle.std.specs.Prelude.{◌≡◌, true, not, ℕ, ◌≤◌, ◌<◌, length};
 ghost use Rattle.basics.specs.Choice.{both};
 ghost use Rattle.basics.specs.Below.{all_below, one_if};
-ghost use Rattle.form.proofs.Shape.{Shaped};
+ghost use Rattle.form.specs.Shape.{Shaped};
 ghost use Rattle.unused.specs.Unused.{unused};
 ghost use Rattle.house.specs.Places.{row_at, tables_at};
 ghost use Rattle.house.specs.NetForm.{member_with, place_with, place_ok, channels_ok, downs_in, may_be_down, net_form};

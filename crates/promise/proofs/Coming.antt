@@ -47,7 +47,7 @@ module _ (p : Tables) (g : Good p) (k : ℕ) (at : PeerPlace p k) where
         w = λ l. refl;
         r = λ l. refl;
         free = ap one_if free ∙ nought;
-        held_now = ap (λ (h : Hold). one_if h.full) (hold-set p.held k now (omega (arith, at.seven, g.shape.held-long))) ∙ one;
+        held_now = ap (λ (h : Hold). one_if h.full) (hold-set p.held k now (omega (arith, at.seven, g.shape.held_long))) ∙ one;
         held_rest = λ l n. ap (λ (h : Hold). one_if h.full) (hold-set-ne p.held k l now n);
         waiting = λ l. refl;
         nothing = nothing-out k;
@@ -105,7 +105,7 @@ module _ (p : Tables) (g : Good p) (k : ℕ) (at : PeerPlace p k) where
       let y : ReadNo = record { 0 = r_at p.r k + 1 } in
       record {
         w = λ l. refl;
-        r_from = r-set p.r k y (omega (arith, at.seven, g.shape.r-long)) ∙ omega arith;
+        r_from = r-set p.r k y (omega (arith, at.seven, g.shape.r_long)) ∙ omega arith;
         r_rest = λ l n. r-set-ne p.r k l y n;
         held = λ l. refl;
         waiting = λ l. refl;

@@ -19,7 +19,7 @@ pub record Able (p : Tables) : Type 0 where
   pub n-high : p.n ≤ 7
   pub number-low : 1 ≤ p.number
   pub number-high : p.number ≤ p.n
-  pub w-long : length p.w ≡ 7
+  pub w_long : length p.w ≡ 7
   pub below : (l : ℕ) → l < p.n → w_at p.w l ≤ own_w p
 
 pub able : (p : Tables) → Good p → Able p
@@ -28,7 +28,7 @@ able p g =
       n-high = g.form.sizes.n-high;
       number-low = g.form.number-low;
       number-high = g.form.number-high;
-      w-long = g.shape.w-long;
+      w_long = g.shape.w_long;
       below = λ l h. let most : p.n ≤ 7 = g.form.sizes.n-high in (g.form.place l (omega arith)).w_below;
     }
 
@@ -80,7 +80,7 @@ grown-not x y e h = omega arith
 module _ (p : Tables) (a : Able p) (v : ℕ) where
   own-known : w_at (learned p v).w (own_place p) ≡ own_w p + 1
   unfolding learned
-  own-known = w-set p.w (own_place p) (record { 0 = own_w p + 1 }) (omega (arith, a.w-long, a.n-high, a.number-low, a.number-high))
+  own-known = w-set p.w (own_place p) (record { 0 = own_w p + 1 }) (omega (arith, a.w_long, a.n-high, a.number-low, a.number-high))
 
   pub spread-to : CastTo p.n p.number (spread p v)
   unfolding spread has_w

@@ -27,13 +27,13 @@ module _ (p : Tables) (g : Good p) where
       }
     where
       none_w : w_at p.w l ≡ 0
-      none_w = ap (λ (x : WriteNo). x.0) (get_or-eq_default p.w no_write (omega (arith, g.shape.w-long)))
+      none_w = ap (λ (x : WriteNo). x.0) (get_or-eq_default p.w no_write (omega (arith, g.shape.w_long)))
 
       none-r : r_at p.r l ≡ 0
-      none-r = ap (λ (x : ReadNo). x.0) (get_or-eq_default p.r no_read (omega (arith, g.shape.r-long)))
+      none-r = ap (λ (x : ReadNo). x.0) (get_or-eq_default p.r no_read (omega (arith, g.shape.r_long)))
 
       none-held : hold_at p.held l ≡ no_hold
-      none-held = get_or-eq_default p.held no_hold (omega (arith, g.shape.held-long))
+      none-held = get_or-eq_default p.held no_hold (omega (arith, g.shape.held_long))
 
       none-waiting : line_at p.lines l ≡ no_line
       none-waiting = get_or-eq_default p.lines no_line (omega (arith, g.shape.lines_long.seven))

@@ -62,7 +62,7 @@ module _ (p : Tables) (g : Good p) where
         x = record { 0 = own_w p + 1 }
 
         grown : w_at (set p.w (own_place p) x) (own_place p) ≡ own_w p + 1
-        grown = w-set p.w (own_place p) x (omega (arith, (own-place p g.form).2, g.shape.w-long))
+        grown = w-set p.w (own_place p) x (omega (arith, (own-place p g.form).2, g.shape.w_long))
 
         rest : (l : ℕ) → l ≢ own_place p → w_at (set p.w (own_place p) x) l ≡ w_at p.w l
         rest l o = w-set-ne p.w (own_place p) l x o
@@ -98,7 +98,7 @@ module _ (p : Tables) (g : Good p) where
   read-starts =
       record {
         w = λ l. refl;
-        r_own = r-set p.r (own_place p) y (omega (arith, (own-place p g.form).2, g.shape.r-long)) ∙ omega arith;
+        r_own = r-set p.r (own_place p) y (omega (arith, (own-place p g.form).2, g.shape.r_long)) ∙ omega arith;
         r_rest = λ l o. r-set-ne p.r (own_place p) l y o;
         held = λ l. refl;
         waiting = λ l. refl;

@@ -36,7 +36,7 @@ module _ (q : Tables) (a : Able q) (k : ℕ) (within : k < q.n) (other : k ≢ o
       (λ full.
       let v : ℕ = (hold_at q.held k).value in
       let e : Tables = set_held q (set q.held k no_hold) in
-      let able-e : Able e = record { n-high = a.n-high; number-low = a.number-low; number-high = a.number-high; w-long = a.w-long; below = a.below } in
+      let able-e : Able e = record { n-high = a.n-high; number-low = a.number-low; number-high = a.number-high; w_long = a.w_long; below = a.below } in
       let t : TakesOne e k (take e k v) = take-one e able-e k v within other in
       let holds : (take e k v).tables.held ≡ set q.held k no_hold = take-keeps (λ (x : Tables). x.held) e k v (λ ws h. refl) in
       record {
@@ -89,14 +89,14 @@ module _ (p : Tables) (g : Good p) (k v : ℕ) (at : PeerPlace p k) where
         n-high = omega (arith, same-n, (able p g).n-high);
         number-low = omega (arith, same_number, (able p g).number-low);
         number-high = omega (arith, same-n, same_number, (able p g).number-high);
-        w-long = first.w-long;
+        w_long = first.w_long;
         below = λ l h. subst (λ (i : ℕ). w_at next.w l ≤ w_at next.w (i - 1)) (sym same_number) (still-below l (omega (arith, same-n)));
       }
 
   second : TakesHeld next k (take_held next k)
   second =
       takes-held next able-next k (omega (arith, same-n, at.within)) (λ (e : k ≡ own_place next). at.other (e ∙ ap (λ (i : ℕ). i - 1) same_number))
-      (ap (λ (hs : List Hold). length hs) same-holds ∙ g.shape.held-long)
+      (ap (λ (hs : List Hold). length hs) same-holds ∙ g.shape.held_long)
 
   -- in the panel's own terms
   second-takes :

@@ -19,16 +19,16 @@ use Rattle.promise.proofs.Receivers.{CastTo, unmarked, no-cast-to, only-to, cast
 -- what a WRITE taken from the peer at place k leaves: the promise, and that WRITEs alone are sent, to other panels
 pub record TakesOne (p : Tables) (k : ℕ) (o : Took) : Type 0 where
   pub takes : Takes p.n (own_place p) k (λ (l : ℕ). w_at p.w l) (λ (l : ℕ). w_at o.tables.w l) (cast_out o.cast)
-  pub w-long : length o.tables.w ≡ 7
+  pub w_long : length o.tables.w ≡ 7
   pub cast : CastTo p.n p.number o.cast
   pub bit : o.cast.kind < 2
 
 module _ (p : Tables) (a : Able p) (k v : ℕ) (within : k < p.n) (other : k ≢ own_place p) where
   k-seven : k < length p.w
-  k-seven = omega (arith, a.w-long, a.n-high)
+  k-seven = omega (arith, a.w_long, a.n-high)
 
   own-seven : own_place p < length p.w
-  own-seven = omega (arith, a.w-long, a.n-high, a.number-low, a.number-high)
+  own-seven = omega (arith, a.w_long, a.n-high, a.number-low, a.number-high)
 
   -- ---- learned
 
@@ -46,7 +46,7 @@ module _ (p : Tables) (a : Able p) (k v : ℕ) (within : k < p.n) (other : k ≢
           peers = cast-peers p.n p.number a.number-low (spread p v) (spread-to p a v);
           writes = spread-due p a v (λ (l : ℕ). w_at w'' l) (omega (arith, own-now)) (λ l o. up l o (ℕ_discrete l k)) (λ l o n. same l o n);
         };
-        w-long = length-kept w' k y+ (length-kept p.w (own_place p) y+ a.w-long);
+        w_long = length-kept w' k y+ (length-kept p.w (own_place p) y+ a.w_long);
         cast = spread-to p a v;
         bit = let kind : (spread p v).kind ≡ (own_w p + 1) % 2 = spread-kind p a v in omega arith;
       }
@@ -58,7 +58,7 @@ module _ (p : Tables) (a : Able p) (k v : ℕ) (within : k < p.n) (other : k ≢
       w'' = set w' k y+
 
       peer-now : w_at w'' k ≡ own_w p + 1
-      peer-now = w-set w' k y+ (omega (arith, k-seven, length-kept p.w (own_place p) y+ a.w-long, a.w-long))
+      peer-now = w-set w' k y+ (omega (arith, k-seven, length-kept p.w (own_place p) y+ a.w_long, a.w_long))
 
       own-now : w_at w'' (own_place p) ≡ own_w p + 1
       own-now = w-set-ne w' k (own_place p) y+ (λ h. other (sym h)) ∙ w-set p.w (own_place p) y+ own-seven
@@ -117,7 +117,7 @@ module _ (p : Tables) (a : Able p) (k v : ℕ) (within : k < p.n) (other : k ≢
             peers = cast-peers p.n p.number a.number-low c t;
             writes = cast-due p.n (own_place p) (λ (l : ℕ). w_at p.w l) (λ (l : ℕ). w_at w₁ l) c a.n-high step;
           };
-          w-long = length-kept p.w k x+ a.w-long;
+          w_long = length-kept p.w k x+ a.w_long;
           cast = t;
           bit = bit;
         }

@@ -155,3 +155,6 @@ module _ (p : Tables) (room j m : ℕ) (b : Bool) (peer : m ≡ j) (e : first_of
   pub write-from-0 : stray p (m - 1) b ≡ false → 0 ≡ first_of (write_from_trials p room j b)
   unfolding write_from_trials
   write-from-0 h = more-0 p room j 11 _ e (ap (λ (x : ℕ). stray p (x - 1) b) (sym peer) ∙ h)
+
+-- by which the check itself finds which of 2 and 3 comes first, if one does
+pub ruleset firsts = (first-2, first-3, first-0)

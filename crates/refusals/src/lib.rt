@@ -25,6 +25,7 @@ fn is_idle(o: Operation) -> bool
 }
 
 // 2 and 3
+#[tactic(auto, using(crate::proofs::Refusing::firsts))]
 fn refused_first(p: Tables, room: usize) -> u8
     ensures { result ≡ first_of (first_trials p room) }
 {
@@ -33,6 +34,9 @@ fn refused_first(p: Tables, room: usize) -> u8
     }
     if room < 107 { 3 } else { 0 }
 }
+
+// The last write number there is.
+const WRITES: u8 = 200;
 
 pub fn refused_write(p: Tables, room: usize) -> u8
     ensures { result ≡ first_of (write_trials p room) }
@@ -49,7 +53,7 @@ pub fn refused_write(p: Tables, room: usize) -> u8
         return 7;
     }
     let i = wide(p.number) - 1;
-    if 200 <= p.w[i].0 { 8 } else { 0 }
+    if WRITES <= p.w[i].0 { 8 } else { 0 }
 }
 
 pub fn refused_read(p: Tables, room: usize) -> u8

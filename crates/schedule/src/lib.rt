@@ -2,7 +2,7 @@
 #![tactic(auto)]
 
 ghost use Rattle.std.specs.Prelude.{◌≡◌, ◌≤◌, ◌<◌, true, [], ◌∷◌, get_or};
-ghost use Rattle.std.proofs.lemmas.List.Edits.{sets};
+ghost use lib.Seq.{sets};
 ghost use Rattle.basics.specs.Choice.{ite, both};
 ghost use Rattle.codec.specs.Numbers.{bytes_of, number_at};
 ghost use Rattle.codec.specs.Items.{size_of};

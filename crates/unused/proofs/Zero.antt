@@ -90,12 +90,12 @@ pub unused-is-fresh : (p : Tables) → Shaped p → unused p ≡ true → p ≡ 
 unfolding fresh
 unused-is-fresh p s e =
     let z : Passed p = passed p e in
-    let w : p.w ≡ replicate 7 no_write = all_same no_write no_write 7 p.w s.w-long (λ j h. ap (λ (x : ℕ). record { 0 = x }) (z.places-zero j h).w-zero) in
-    let r : p.r ≡ replicate 7 no_read = all_same no_read no_read 7 p.r s.r-long (λ j h. ap (λ (x : ℕ). record { 0 = x }) (z.places-zero j h).r-zero) in
-    let held : p.held ≡ replicate 7 no_hold = all_same no_hold no_hold 7 p.held s.held-long (λ j h. (z.places-zero j h).nothing-held) in
+    let w : p.w ≡ replicate 7 no_write = all_same no_write no_write 7 p.w s.w_long (λ j h. ap (λ (x : ℕ). record { 0 = x }) (z.places-zero j h).w-zero) in
+    let r : p.r ≡ replicate 7 no_read = all_same no_read no_read 7 p.r s.r_long (λ j h. ap (λ (x : ℕ). record { 0 = x }) (z.places-zero j h).r-zero) in
+    let held : p.held ≡ replicate 7 no_hold = all_same no_hold no_hold 7 p.held s.held_long (λ j h. (z.places-zero j h).nothing-held) in
     let lines : p.lines ≡ replicate 7 empty_line
     = all_same no_line empty_line 7 p.lines s.lines_long.seven (λ j h. line-zero _ (s.lines_long.hundred j h) (z.places-zero j h).line-unused) in
-    let history : p.history ≡ replicate 201 0 = all_same 0 0 201 p.history s.history-long z.history-zero in
+    let history : p.history ≡ replicate 201 0 = all_same 0 0 201 p.history s.history_long z.history-zero in
     λ i.
     record {
       n = z.n-zero i;

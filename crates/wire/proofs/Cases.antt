@@ -48,6 +48,9 @@ not_known : (k : ℕ) → 4 ≤ k → wire.known k ≡ false
 unfolding wire
 not_known k h = le-ltb _ _ h
 
+-- by which the check itself finds how many bytes a kind has
+pub ruleset sizes = (size-valued, size-bare)
+
 -- ---- reading
 
 module _ (s : List ℕ) where

@@ -20,6 +20,7 @@ pub enum Put {
 }
 
 // How many bytes a message of this kind has; a byte that is no kind counts one.
+#[tactic(auto, using(crate::proofs::Cases::sizes))]
 pub fn size_of(kind: u8) -> usize
     ensures { result ≡ size_of wire kind }
 {

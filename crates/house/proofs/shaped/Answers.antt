@@ -11,10 +11,10 @@ loop-j-preserved c = (omega arith, below_more _ _ c.loop-j.invariant.1 c.line_lo
 pub returns : goal.returns
 returns c =
     record {
-      w-long = c.well_formed.0.1.1.1.1.1.1.0.1.0.1;
-      r-long = c.well_formed.0.1.1.1.1.1.1.1.0.1.0.1;
-      history-long = c.well_formed.0.1.1.1.1.1.1.1.1.0.1.0.1;
-      held-long = c.well_formed.0.1.1.1.1.1.1.1.1.1.0.1.0.1;
+      w_long = c.well_formed.0.1.1.1.1.1.1.0.1.0.1;
+      r_long = c.well_formed.0.1.1.1.1.1.1.1.0.1.0.1;
+      history_long = c.well_formed.0.1.1.1.1.1.1.1.1.0.1.0.1;
+      held_long = c.well_formed.0.1.1.1.1.1.1.1.1.1.0.1.0.1;
       lines_long = record {
         seven = c.well_formed.0.1.1.1.1.1.1.1.1.1.1.0.1.0.1;
         hundred = λ j h. c.loop-j.invariant.1 j (omega (arith, c.loop-j-test.false));

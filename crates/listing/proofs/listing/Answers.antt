@@ -4,7 +4,7 @@ use Rattle.listing.proofs.{Answering.{too_long_lem, not-too-long, too-long-9, sh
 use Rattle.listing.proofs.listing.Goals as goal
 
 pub returns-then-out-lt-LONGEST : goal.returns-then-out-lt-LONGEST
-returns-then-out-lt-LONGEST c = record { out_after = short _ _ c.if-out-lt-LONGEST.true; within = omega arith }
+returns-then-out-lt-LONGEST c = record { out_after = short _ _ (omega arith); within = omega arith }
 
 pub slice_bounds-put_all-end : goal.slice_bounds-put_all-end
 slice_bounds-put_all-end c = sym (too-long-9 c.too_long-line.ensures)
@@ -14,12 +14,12 @@ put_all-n-requires c = omega (arith, too-long-9 c.too_long-line.ensures)
 
 pub returns-then-schedule-gt-MOST : goal.returns-then-schedule-gt-MOST
 returns-then-schedule-gt-MOST c = record {
-  out_after = done _ _ c.if-out-lt-LONGEST.false (c.too_long-line.ensures ∙ sym (too_long_lem _ c.if-schedule-gt-MOST.true)) c.put_all-n.ensures;
+  out_after = done _ _ c.if-out-lt-LONGEST.false (c.too_long-line.ensures ∙ sym (too_long_lem _ (omega arith))) c.put_all-n.ensures;
   within = omega (arith, too-long-9 c.too_long-line.ensures, c.put_all-n.ensures.place, c.if-out-lt-LONGEST.false);
 }
 
 pub returns : goal.returns
 returns c = record {
-  out_after = done _ _ c.if-out-lt-LONGEST.false (sym (not-too-long _ c.if-schedule-gt-MOST.false)) c.put_lines-n.ensures.0;
+  out_after = done _ _ c.if-out-lt-LONGEST.false (sym (not-too-long _ (omega arith))) c.put_lines-n.ensures.0;
   within = omega (arith, c.put_lines-n.ensures.1, c.if-out-lt-LONGEST.false);
 }

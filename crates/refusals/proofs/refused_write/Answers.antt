@@ -24,10 +24,10 @@ overflow_sub-i c = let s = first-sized c.args.p _ (sym c.refused_first-first.ens
 pub bounds-p-i : goal.bounds-p-i
 bounds-p-i c = let s = first-sized c.args.p _ (sym c.refused_first-first.ensures ∙ c.if-first-ne0.false) in omega (arith, s.low, s.high, c.wide-i.ensures.0)
 
-pub returns-then-p-i-ge200 : goal.returns-then-p-i-ge200
+pub returns-then-p-i-ge-WRITES : goal.returns-then-p-i-ge-WRITES
 unfolding at_writer
-returns-then-p-i-ge200 c = write-8 _ _ (sym c.refused_first-first.ensures ∙ c.if-first-ne0.false) (eq-eqb _ _ c.if-p.false) (sym c.is_idle.ensures ∙ c.if-not-is_idle.false) (subst (λ (i : ℕ). 200 ≤ w_at c.args.p.w (i - 1)) c.wide-i.ensures.0 c.if-p-i-ge200.true)
+returns-then-p-i-ge-WRITES c = write-8 _ _ (sym c.refused_first-first.ensures ∙ c.if-first-ne0.false) (eq-eqb _ _ c.if-p.false) (sym c.is_idle.ensures ∙ c.if-not-is_idle.false) (subst (λ (i : ℕ). 200 ≤ w_at c.args.p.w (i - 1)) c.wide-i.ensures.0 (omega arith))
 
-pub returns-else-p-i-ge200 : goal.returns-else-p-i-ge200
+pub returns-else-p-i-ge-WRITES : goal.returns-else-p-i-ge-WRITES
 unfolding at_writer
-returns-else-p-i-ge200 c = write-0 _ _ (sym c.refused_first-first.ensures ∙ c.if-first-ne0.false) (eq-eqb _ _ c.if-p.false) (sym c.is_idle.ensures ∙ c.if-not-is_idle.false) (subst (λ (i : ℕ). w_at c.args.p.w (i - 1) < 200) c.wide-i.ensures.0 c.if-p-i-ge200.false)
+returns-else-p-i-ge-WRITES c = write-0 _ _ (sym c.refused_first-first.ensures ∙ c.if-first-ne0.false) (eq-eqb _ _ c.if-p.false) (sym c.is_idle.ensures ∙ c.if-not-is_idle.false) (subst (λ (i : ℕ). w_at c.args.p.w (i - 1) < 200) c.wide-i.ensures.0 (omega arith))

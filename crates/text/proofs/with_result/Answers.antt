@@ -8,7 +8,7 @@ pub returns-then-tag-eq0 : goal.returns-then-tag-eq0
 returns-then-tag-eq0 c =
     let a = c.args in
     let most = result-most a.tag a.number 10 (omega arith) (omega arith) in
-    let text = ap (λ (x : List ℕ). 32 ∷ x) (result-none a.tag a.number c.if-tag-eq0.true) in
+    let text = ap (λ (x : List ℕ). 32 ∷ x) (result-none a.tag a.number (omega arith)) in
     named 12 text (omega (arith, most)) (behind c.with_byte-s.ensures c.with_byte.ensures)
 
 pub with_number-requires : goal.with_number-requires

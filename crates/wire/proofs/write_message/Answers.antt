@@ -11,13 +11,13 @@ pub returns-then-kind-ge4 : goal.returns-then-kind-ge4
 returns-then-kind-ge4 c = sym (writing-refused _ _ _ (omega (arith, c.size_of-size.ensures)) (not-sendable-unknown _ _ c.if-kind-ge4.true))
 
 pub returns-then-value-ne0 : goal.returns-then-value-ne0
-returns-then-value-ne0 c = sym (writing-refused _ _ _ (omega (arith, c.size_of-size.ensures)) (not-sendable-loaded _ _ c.if-kind-ge2.true c.if-value-ne0.true))
+returns-then-value-ne0 c = sym (writing-refused _ _ _ (omega (arith, c.size_of-size.ensures)) (not-sendable-loaded _ _ c.if-kind-ge2.true (omega arith)))
 
 pub bounds-area-0 : goal.bounds-area-0
 bounds-area-0 c = omega (arith, c.size_of-size.ensures, size-bare _ c.if-kind-ge2.true)
 
 pub returns-then-kind-ge2 : goal.returns-then-kind-ge2
-returns-then-kind-ge2 c = written_bare _ _ _ _ c.size_of-size.ensures c.if-area-size.false c.if-kind-ge2.true c.if-kind-ge4.false c.if-value-ne0.false
+returns-then-kind-ge2 c = written_bare _ _ _ _ c.size_of-size.ensures c.if-area-size.false c.if-kind-ge2.true c.if-kind-ge4.false (omega arith)
 
 pub bounds-area-0-2 : goal.bounds-area-0-2
 bounds-area-0-2 c = omega (arith, c.size_of-size.ensures, size-valued _ c.if-kind-ge2.false)
