@@ -4,3 +4,4 @@ pub mod Below
 pub mod Lists
 pub mod Refusals
 pub mod Outcomes
+pub mod KindBytes

@@ -5,6 +5,7 @@ use Prim.Native.Nat.{ℕ, ◌≤◌}
 use native.Mathlib.Omega.{arith}
 use lib.Dec.{eqb}
 use borrow.Author.Tests.{eq-eqb, ne_eqb}
+use mir.Val.{bool_byte}
 use Rattle.basics.specs.Below.{one_if}
 
 pub one : one_if true ≡ 1
@@ -37,3 +38,9 @@ one_same e = ap one_if (eq-eqb _ _ e) ∙ one
 
 pub nought-apart : {m k : ℕ} → m ≢ k → one_if (eqb m k) ≡ 0
 nought-apart d = ap one_if (ne_eqb _ _ d) ∙ nought
+
+-- a test as a number, as std makes it
+pub byte-is : (b : Bool) → bool_byte b ≡ one_if b
+unfolding one_if
+byte-is true = refl
+byte-is false = refl

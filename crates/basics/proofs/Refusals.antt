@@ -1,9 +1,15 @@
--- The laws of refusals tried in order: where the first of them is 0, every test came out false, and the other way round.
+-- The laws of refusals tried in order: where the first of them is 0, every test came out false, and the other way round; and what
+-- a call answers by them.
 -- Assumes nothing.
-use mathlib.Core.{Bool.{Bool, true, false}, List.{List, [], ◌∷◌, ◌++◌}, Logic.◌≢◌, Path.{◌≡◌, refl, sym}}
+use mathlib.Core.{Bool.{Bool, true, false}, List.{List, [], ◌∷◌, ◌++◌}, Logic.◌≢◌, Path.{◌≡◌, refl, sym, ap, ◌∙◌}}
 use Prim.Native.Nat.{ℕ, ◌<◌}
 use native.Mathlib.Omega.{arith}
-use Rattle.basics.specs.{Choice.ite, Refusal.{Trial, first_of}}
+use lib.Dec.{lit<}
+use Rattle.std.specs.Prelude.{Result, Ok, Err}
+use Rattle.basics.specs.{Choice.ite, Refusal.{Trial, first_of, met, unless, number_of, code}}
+use Rattle.basics.specs.declared.refused.Refusal.{Refusal}
+use Rattle.basics.specs.declared.refused.Refusal.TheVariants.{OutOfRange, NotInForm, AreaTooShort, NoSuchPanel, PanelDown, NotTheWriter, Unfinished, UsedUp, NothingInFlight}
+use Rattle.basics.specs.declared.refused.Refusal.TheVariants.{TooManyDown, StrayWrite, StrayProceed, LineFull, ChannelFull, UnknownKind, CutShort, SetUpMisplaced}
 use Rattle.basics.proofs.Choices.{ite-true, ite-false}
 
 -- no test came out true
@@ -11,21 +17,38 @@ abbrev pub Passes : List Trial → Type 0
 Passes [] = Unit {0}
 Passes (t ∷ ts) = (t.given ≡ false) × Passes ts
 
--- each has a number above 0
-abbrev pub Numbered : List Trial → Type 0
-Numbered [] = Unit {0}
-Numbered (t ∷ ts) = (0 < t.number) × Numbered ts
+pub number-low : (r : Refusal) → 0 < number_of r
+number-low OutOfRange = lit< tt
+number-low NotInForm = lit< tt
+number-low AreaTooShort = lit< tt
+number-low NoSuchPanel = lit< tt
+number-low PanelDown = lit< tt
+number-low NotTheWriter = lit< tt
+number-low Unfinished = lit< tt
+number-low UsedUp = lit< tt
+number-low NothingInFlight = lit< tt
+number-low TooManyDown = lit< tt
+number-low StrayWrite = lit< tt
+number-low StrayProceed = lit< tt
+number-low LineFull = lit< tt
+number-low ChannelFull = lit< tt
+number-low UnknownKind = lit< tt
+number-low CutShort = lit< tt
+number-low SetUpMisplaced = lit< tt
 
-pub passed : (ts : List Trial) → Numbered ts → first_of ts ≡ 0 → Passes ts
+pub number-some : (r : Refusal) → number_of r ≢ 0
+number-some r e = let n : 0 < number_of r = number-low r in absurd (omega arith)
+
+pub passed : (ts : List Trial) → first_of ts ≡ 0 → Passes ts
 unfolding first_of ite
-passed [] h e = tt
-passed (t ∷ ts) h e = go t.given e (passed ts h.1)
+passed [] e = tt
+passed (t ∷ ts) e = go t.given e (passed ts)
   where
-    go : (b : Bool) → ite b t.number (first_of ts) ≡ 0 → (first_of ts ≡ 0 → Passes ts) → (b ≡ false) × Passes ts
-    go true z rest = let n : 0 < t.number = h.0 in absurd (omega arith)
+    go : (b : Bool) → ite b (number_of t.refusal) (first_of ts) ≡ 0 → (first_of ts ≡ 0 → Passes ts) → (b ≡ false) × Passes ts
+    go true z rest = absurd (number-some t.refusal z)
     go false z rest = (refl, rest z)
 
-pub first-given : (t : Trial) (ts : List Trial) → t.given ≡ true → first_of (t ∷ ts) ≡ t.number
+pub first-given : (t : Trial) (ts : List Trial) → t.given ≡ true → first_of (t ∷ ts) ≡ number_of t.refusal
 unfolding first_of
 first-given t ts h = ite-true _ _ h
 
@@ -34,13 +57,13 @@ unfolding first_of
 first-not t ts h = ite-false _ _ h
 
 -- trials behind others: tried where the others pass, and not where one of them is given
-pub first_past : (ts us : List Trial) → Numbered ts → first_of ts ≡ 0 → first_of (ts ++ us) ≡ first_of us
+pub first_past : (ts us : List Trial) → first_of ts ≡ 0 → first_of (ts ++ us) ≡ first_of us
 unfolding first_of ite
-first_past [] us h e = refl
-first_past (t ∷ ts) us h e = go t.given e (first_past ts us h.1)
+first_past [] us e = refl
+first_past (t ∷ ts) us e = go t.given e (first_past ts us)
   where
-    go : (b : Bool) → ite b t.number (first_of ts) ≡ 0 → (first_of ts ≡ 0 → first_of (ts ++ us) ≡ first_of us) → ite b t.number (first_of (ts ++ us)) ≡ first_of us
-    go true z rest = let n : 0 < t.number = h.0 in absurd (omega arith)
+    go : (b : Bool) → ite b (number_of t.refusal) (first_of ts) ≡ 0 → (first_of ts ≡ 0 → first_of (ts ++ us) ≡ first_of us) → ite b (number_of t.refusal) (first_of (ts ++ us)) ≡ first_of us
+    go true z rest = absurd (number-some t.refusal z)
     go false z rest = rest z
 
 pub first_stops : (ts us : List Trial) (k : ℕ) → k ≢ 0 → first_of ts ≡ k → first_of (ts ++ us) ≡ k
@@ -48,10 +71,83 @@ unfolding first_of ite
 first_stops [] us k n e = absurd (n (sym e))
 first_stops (t ∷ ts) us k n e = go t.given e (first_stops ts us k n)
   where
-    go : (b : Bool) → ite b t.number (first_of ts) ≡ k → (first_of ts ≡ k → first_of (ts ++ us) ≡ k) → ite b t.number (first_of (ts ++ us)) ≡ k
+    go : (b : Bool) → ite b (number_of t.refusal) (first_of ts) ≡ k → (first_of ts ≡ k → first_of (ts ++ us) ≡ k) → ite b (number_of t.refusal) (first_of (ts ++ us)) ≡ k
     go true z rest = z
     go false z rest = rest z
 
 pub first-none : first_of [] ≡ 0
 unfolding first_of
 first-none = refl
+
+-- ---- as a call answers it
+
+-- the number of what is answered
+pub code-met : (ts : List Trial) → code (met ts) ≡ first_of ts
+unfolding first_of met ite
+code-met [] = refl
+code-met (t ∷ ts) = go t.given (code-met ts)
+  where
+    go : (b : Bool) → code (met ts) ≡ first_of ts → code (ite b (Err t.refusal) (met ts)) ≡ ite b (number_of t.refusal) (first_of ts)
+    go true e = refl
+    go false e = e
+
+pub met-given : (t : Trial) (ts : List Trial) → t.given ≡ true → met (t ∷ ts) ≡ Err t.refusal
+unfolding met
+met-given t ts h = ite-true _ _ h
+
+pub met-not : (t : Trial) (ts : List Trial) → t.given ≡ false → met (t ∷ ts) ≡ met ts
+unfolding met
+met-not t ts h = ite-false _ _ h
+
+pub met-none : met [] ≡ Ok tt
+unfolding met
+met-none = refl
+
+-- trials behind others
+pub met-past : (ts us : List Trial) → met ts ≡ Ok tt → met (ts ++ us) ≡ met us
+unfolding met ite
+met-past [] us e = refl
+met-past (t ∷ ts) us e = go t.given e (met-past ts us)
+  where
+    go : (b : Bool) → ite b (Err t.refusal) (met ts) ≡ Ok tt → (met ts ≡ Ok tt → met (ts ++ us) ≡ met us) → ite b (Err t.refusal) (met (ts ++ us)) ≡ met us
+    go true z rest = absurd (number-some t.refusal (ap code z))
+    go false z rest = rest z
+
+pub met-stops : (ts us : List Trial) (r : Refusal) → met ts ≡ Err r → met (ts ++ us) ≡ Err r
+unfolding met ite
+met-stops [] us r e = absurd (number-some r (sym (ap code e)))
+met-stops (t ∷ ts) us r e = go t.given e (met-stops ts us r)
+  where
+    go : (b : Bool) → ite b (Err t.refusal) (met ts) ≡ Err r → (met ts ≡ Err r → met (ts ++ us) ≡ Err r) → ite b (Err t.refusal) (met (ts ++ us)) ≡ Err r
+    go true z rest = z
+    go false z rest = rest z
+
+-- nothing is met where the number is 0, and else the refusal of that number
+pub met-nothing : (ts : List Trial) → first_of ts ≡ 0 → met ts ≡ Ok tt
+met-nothing ts z = go (met ts) (code-met ts ∙ z)
+  where
+    go : (m : Result Unit Refusal) → code m ≡ 0 → m ≡ Ok tt
+    go (Ok tt) e = refl
+    go (Err r) e = absurd (number-some r e)
+
+-- what holds where nothing is met, and where a refusal is, holds of what comes of it
+pub unless-case {ℓ κ} :
+    {A : Type ℓ} (P : A → Type κ) (ts : List Trial) (x : A) (f : Refusal → A) → (first_of ts ≡ 0 → P x) →
+    ((r : Refusal) → first_of ts ≡ number_of r → P (f r)) → P (unless (met ts) x f)
+unfolding unless
+unless-case P ts x f none some = go (met ts) (code-met ts)
+  where
+    go : (m : Result Unit Refusal) → code m ≡ first_of ts → P (unless m x f)
+    go (Ok u) e = none (sym e)
+    go (Err r) e = some r (sym e)
+
+pub unless-passed {ℓ} : {A : Type ℓ} (ts : List Trial) (x : A) (f : Refusal → A) → first_of ts ≡ 0 → unless (met ts) x f ≡ x
+unless-passed ts x f z = unless-case (λ a. a ≡ x) ts x f (λ _. refl) (λ r e. absurd (number-some r (sym e ∙ z)))
+
+pub unless-ok {ℓ} : {A : Type ℓ} {m : Result Unit Refusal} (x : A) (f : Refusal → A) → m ≡ Ok tt → unless m x f ≡ x
+unfolding unless
+unless-ok x f h = rw h
+
+pub unless-err {ℓ} : {A : Type ℓ} {m : Result Unit Refusal} {r : Refusal} (x : A) (f : Refusal → A) → m ≡ Err r → unless m x f ≡ f r
+unfolding unless
+unless-err x f h = rw h

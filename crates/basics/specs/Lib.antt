@@ -2,3 +2,4 @@ pub mod Choice
 pub mod Below
 pub mod Refusal
 pub mod Outcome
+pub mod Kinds

@@ -1,11 +1,7 @@
-use Rattle.std.proofs.Common.{rules}
+use mathlib.Core.Path.{◌∙◌}
+use native.Mathlib.Omega.{arith}
+use Rattle.basics.proofs.Ones.{byte-is, one-most}
 use Rattle.basics.proofs.one_if.Goals as goal
-use Rattle.basics.specs.Below.{one_if}
 
-pub returns-then-b : goal.returns-then-b
-unfolding one_if
-returns-then-b c = (simp c.if-b.true, search rules)
-
-pub returns-else-b : goal.returns-else-b
-unfolding one_if
-returns-else-b c = (simp c.if-b.false, search rules)
+pub returns : goal.returns
+returns c = let e = c.from.ensures ∙ byte-is c.args.b in (e, omega (arith, e, one-most c.args.b))
