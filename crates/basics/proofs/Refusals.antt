@@ -151,3 +151,29 @@ unless-ok x f h = rw h
 pub unless-err {ℓ} : {A : Type ℓ} {m : Result Unit Refusal} {r : Refusal} (x : A) (f : Refusal → A) → m ≡ Err r → unless m x f ≡ f r
 unfolding unless
 unless-err x f h = rw h
+
+-- ---- one trial after the other
+
+abbrev pub and_then : {A : Type 0} → Result Unit Refusal → Result A Refusal → Result A Refusal
+and_then (Ok u) m = m
+and_then (Err r) m = Err r
+
+pub met-cons : (t : Trial) (us : List Trial) → met (t ∷ us) ≡ and_then (met (t ∷ [])) (met us)
+unfolding met ite
+met-cons t us = go t.given
+  where
+    go : (b : Bool) → ite b (Err t.refusal) (met us) ≡ and_then (ite b (Err t.refusal) (Ok tt)) (met us)
+    go true = refl
+    go false = refl
+
+pub met-append : (ts us : List Trial) → met (ts ++ us) ≡ and_then (met ts) (met us)
+unfolding met ite
+met-append [] us = refl
+met-append (t ∷ ts) us = go t.given (met-append ts us)
+  where
+    go : (b : Bool) → met (ts ++ us) ≡ and_then (met ts) (met us) → ite b (Err t.refusal) (met (ts ++ us)) ≡ and_then (ite b (Err t.refusal) (met ts)) (met us)
+    go true e = refl
+    go false e = e
+
+-- by which the check itself follows trials that are tried one after the other
+pub ruleset in_turn = (met-cons, met-append)
