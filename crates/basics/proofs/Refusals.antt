@@ -6,7 +6,7 @@ use Prim.Native.Nat.{ℕ, ◌<◌}
 use native.Mathlib.Omega.{arith}
 use lib.Dec.{lit<}
 use Rattle.std.specs.Prelude.{Result, Ok, Err}
-use Rattle.basics.specs.{Choice.ite, Refusal.{Trial, first_of, met, unless, number_of, code}}
+use Rattle.basics.specs.{Choice.ite, Refusal.{Trial, first_of, met, unless, and_then, number_of, code}}
 use Rattle.basics.specs.declared.refused.Refusal.{Refusal}
 use Rattle.basics.specs.declared.refused.Refusal.TheVariants.{OutOfRange, NotInForm, AreaTooShort, NoSuchPanel, PanelDown, NotTheWriter, Unfinished, UsedUp, NothingInFlight}
 use Rattle.basics.specs.declared.refused.Refusal.TheVariants.{TooManyDown, StrayWrite, StrayProceed, LineFull, ChannelFull, UnknownKind, CutShort, SetUpMisplaced}
@@ -130,6 +130,9 @@ met-nothing ts z = go (met ts) (code-met ts ∙ z)
     go (Ok tt) e = refl
     go (Err r) e = absurd (number-some r e)
 
+pub none-met : (ts : List Trial) → Ok tt ≡ met ts → first_of ts ≡ 0
+none-met ts e = sym (code-met ts) ∙ sym (ap code e)
+
 -- what holds where nothing is met, and where a refusal is, holds of what comes of it
 pub unless-case {ℓ κ} :
     {A : Type ℓ} (P : A → Type κ) (ts : List Trial) (x : A) (f : Refusal → A) → (first_of ts ≡ 0 → P x) →
@@ -153,10 +156,6 @@ unfolding unless
 unless-err x f h = rw h
 
 -- ---- one trial after the other
-
-abbrev pub and_then : {A : Type 0} → Result Unit Refusal → Result A Refusal → Result A Refusal
-and_then (Ok u) m = m
-and_then (Err r) m = Err r
 
 pub met-cons : (t : Trial) (us : List Trial) → met (t ∷ us) ≡ and_then (met (t ∷ [])) (met us)
 unfolding met ite
