@@ -1,0 +1,28 @@
+-- Past the end of the bytes every place is like the end itself.
+-- Assumes nothing.
+use mathlib.Core.{Bool.{Bool, true, false}, List.List, Path.{◌≡◌, refl, sym, ap, ◌∙◌}}
+use Prim.Native.Nat.{ℕ, ◌+◌, ◌≤◌}
+use native.Mathlib.{Omega.arith}
+use Rattle.std.specs.Prelude.{min}
+use lib.{Dec.ltb, ListN.{length, get_or-eq_default}, Seq.sets}
+use borrow.Author.Tests.{ltb-true, ltb-false}
+use Rattle.basics.proofs.Lists.{sets-past}
+use Rattle.codec.proofs.Words.{number_at-past}
+use Rattle.tables.specs.Places.{no_hold}
+use Rattle.carried.specs.{Laid.Laid, Panels.hold_from}
+
+within : {A : Type 0} (f : ℕ → A) (d : A) (n at : ℕ) → ((i : ℕ) → n ≤ i → f i ≡ d) → f (min at n) ≡ f at
+within {A} f d n at past = pick (ltb at n) refl
+  where
+    pick : (b : Bool) → ltb at n ≡ b → f (min at n) ≡ f at
+    pick true e = let h = ltb-true _ _ e in ap f (omega arith)
+    pick false e = let h = ltb-false _ _ e in past (min at n) (omega arith) ∙ sym (past at h)
+
+pub hold-within : (s : List ℕ) (at : ℕ) → hold_from s (min at (length s)) ≡ hold_from s at
+unfolding hold_from
+hold-within s at =
+    within (hold_from s) no_hold (length s) at (λ i h. simp (get_or-eq_default s 0 h, number_at-past 4 s (i + 1) (omega arith)))
+
+pub laid-within : {l xs m : List ℕ} {i : ℕ} (at : ℕ) → i ≡ min at (length l) → Laid l i xs m → Laid l at xs m
+laid-within {l} {xs} at e h =
+    record { is = h.is ∙ ap (λ (k : ℕ). sets l k xs) e ∙ within (λ (k : ℕ). sets l k xs) l (length l) at (λ k p. sets-past l k xs p) }
