@@ -7,16 +7,9 @@ use Rattle.std.specs.Prelude.{min}
 use lib.{Dec.ltb, ListN.{length, get_or-eq_default}, Seq.sets}
 use borrow.Author.Tests.{ltb-true, ltb-false}
 use Rattle.basics.proofs.Lists.{sets-past}
-use Rattle.codec.proofs.Words.{number_at-past}
+use Rattle.codec.proofs.Words.{number_at-past, within}
 use Rattle.tables.specs.Places.{no_hold}
 use Rattle.carried.specs.{Laid.Laid, Panels.hold_from}
-
-within : {A : Type 0} (f : ℕ → A) (d : A) (n at : ℕ) → ((i : ℕ) → n ≤ i → f i ≡ d) → f (min at n) ≡ f at
-within {A} f d n at past = pick (ltb at n) refl
-  where
-    pick : (b : Bool) → ltb at n ≡ b → f (min at n) ≡ f at
-    pick true e = let h = ltb-true _ _ e in ap f (omega arith)
-    pick false e = let h = ltb-false _ _ e in past (min at n) (omega arith) ∙ sym (past at h)
 
 pub hold-within : (s : List ℕ) (at : ℕ) → hold_from s (min at (length s)) ≡ hold_from s at
 unfolding hold_from

@@ -28,6 +28,7 @@ fn r_from(bytes: &[u8]) -> [ReadNo; 7]
     array::from_fn(|j| ReadNo(codec::byte_at(bytes, 15 + j)))
 }
 
+// At any place.
 pub fn hold_from(bytes: &[u8], at: usize) -> Hold
     ensures { result ≡ hold_from bytes.now at }
 {
@@ -132,6 +133,7 @@ fn put_r(rs: &[ReadNo; 7], out: &mut [u8])
     }
 }
 
+// At any place.
 pub fn put_hold(h: Hold, at: usize, out: &mut [u8])
     ensures { Laid out.old at (hold_bytes h) out.new }
 {
