@@ -20,5 +20,5 @@ panel-into-only κs a x y e f p q = (refl, p ∙ sym q)
 pub hold-from-only : OneResult 1 hold-from-kinds.ps hold-from-kinds.r hold-from.Post
 hold-from-only κs a x y e f p q = p ∙ sym q
 
-pub put-hold-only : OneOutcome 1 put-hold-kinds.ps put-hold-kinds.r (λ κs e. e.2.0.now) put-hold.Post
+pub put-hold-only : OneOutcome 1 put-hold-kinds.ps put-hold-kinds.r (λ κs e. e.1.1.0.now) put-hold.Post
 put-hold-only κs a x y e f p q = (refl, p.is ∙ sym q.is)

@@ -1,11 +1,10 @@
 -- Past the end of the bytes every place is like the end itself.
 -- Assumes nothing.
-use mathlib.Core.{Bool.{Bool, true, false}, List.List, Path.{◌≡◌, refl, sym, ap, ◌∙◌}}
-use Prim.Native.Nat.{ℕ, ◌+◌, ◌≤◌}
+use mathlib.Core.{List.List, Path.{◌≡◌, ap, ◌∙◌}}
+use Prim.Native.Nat.{ℕ, ◌+◌}
 use native.Mathlib.{Omega.arith}
 use Rattle.std.specs.Prelude.{min}
-use lib.{Dec.ltb, ListN.{length, get_or-eq_default}, Seq.sets}
-use borrow.Author.Tests.{ltb-true, ltb-false}
+use lib.{ListN.{length, get_or-eq_default}, Seq.sets}
 use Rattle.basics.proofs.Lists.{sets-past}
 use Rattle.codec.proofs.Words.{number_at-past, within}
 use Rattle.tables.specs.Places.{no_hold}
