@@ -168,22 +168,24 @@ fn put_lines(ls: &[Line; 7], out: &mut [u8])
     }
 }
 
-fn put_two(a: u8, b: u8, out: &mut [u8])
-    ensures { Laid out.old 764 (a ∷ b ∷ []) out.new }
+#[tactic(auto, unfolding(crate::specs::Panels::operation_bytes))]
+fn operation_bytes(o: Operation) -> [u8; 2]
+    ensures { result ≡ operation_bytes o }
 {
-    codec::put_byte(out, 764, a);
-    codec::put_byte(out, 765, b);
+    match o {
+        Operation::Idle => [0, 0],
+        Operation::Writing => [1, 0],
+        Operation::FirstWait => [2, 0],
+        Operation::SecondWait(sn) => [3, sn.0],
+    }
 }
 
 fn put_operation(o: Operation, out: &mut [u8])
     ensures { Laid out.old 764 (operation_bytes o) out.new }
 {
-    match o {
-        Operation::Idle => put_two(0, 0, out),
-        Operation::Writing => put_two(1, 0, out),
-        Operation::FirstWait => put_two(2, 0, out),
-        Operation::SecondWait(sn) => put_two(3, sn.0, out),
-    }
+    let [stage, sn] = operation_bytes(o);
+    codec::put_byte(out, 764, stage);
+    codec::put_byte(out, 765, sn);
 }
 
 fn put_values(history: &[u32; 201], out: &mut [u8])
