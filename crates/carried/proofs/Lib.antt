@@ -1,3 +1,5 @@
+pub mod Past
+pub mod Made
 pub mod Rows
 pub mod Lengths
 pub mod Outcomes

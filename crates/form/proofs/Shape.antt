@@ -5,7 +5,7 @@ use Prim.Native.Nat.{ℕ, ◌<◌}
 use native.Mathlib.{Decide.ℕ_discrete, Omega.arith}
 use lib.ListN.{length, set, replicate, length-replicate, length-set, get_or-replicate}
 use Rattle.tables.specs.{Places.{line_at, no_write, no_read, no_hold, no_line}, declared.Line.Line}
-use Rattle.form.specs.{Form.{fresh, empty_line}, declared.Tables.Tables}
+use Rattle.form.specs.{Form.{fresh, empty_line}}
 use Rattle.form.proofs.Stores.{line_set, line-set-ne}
 pub use Rattle.form.specs.Shape.{LinesLong, Shaped}
 

@@ -1,6 +1,6 @@
 -- When a panel is in form, clause by clause as the description's paragraph has it, and the panel that set-up makes.
 -- Assumes nothing.
-use Rattle.std.specs.Prelude.{ℕ, ◌+◌, ◌*◌, Bool, true}
+use Rattle.std.specs.Prelude.{ℕ, ◌+◌, ◌*◌, Bool, true, false}
 use lib.{Dec.{leb, ltb, eqb}, ListN.{replicate, set}}
 use Rattle.basics.specs.{Below.all_below, Choice.{ite, both}}
 use Rattle.tables.specs.{Form.{hold_ok, line_ok, quiet_ok, history_ok}, Places.{w_at, r_at, hold_at, line_at, no_write, no_read, no_hold}}
@@ -33,6 +33,12 @@ unfoldable pub place_ok : Tables → ℕ → Bool
 place_ok p j =
     place_with (w_at p.w j) (own_w p) (r_at p.r j) (own_r p) (hold_at p.held j) (line_at p.lines j)
     (at_writer p) (leb p.n j) (eqb (j + 1) p.number)
+
+unfoldable pub idle : Operation → Bool
+idle Idle = true
+idle Writing = false
+idle FirstWait = false
+idle (SecondWait sn) = false
 
 -- "writing only at the writer with w[i] ≥ 1; reading only with r[i] ≥ 1, and sn ≤ w[i]"; outside the second wait there is no sn
 unfoldable pub operation_ok : Operation → Bool → ℕ → ℕ → Bool

@@ -1,12 +1,12 @@
 // Whether a panel is in form, and the fresh panel.
 #![tactic(auto)]
 
-ghost use Rattle.std.specs.Prelude.{◌≡◌, ◌+◌, ◌≤◌, ◌<◌, leb, eqb};
+ghost use Rattle.std.specs.Prelude.{◌≡◌, ◌≤◌, ◌<◌};
 ghost use Rattle.basics.specs.Below.{all_below};
-ghost use Rattle.form.specs.Form.{fits, is_panel, place_with, place_ok, operation_ok, in_form, fresh, empty_line};
+ghost use Rattle.form.specs.Form.{fits, is_panel, place_ok, idle, operation_ok, in_form, fresh, empty_line};
 ghost use Rattle.form.specs.Asked.{Sized};
 
-use basics::{both, choose, wide};
+use basics::{both, choose};
 use tables::{Hold, Line, ReadNo, WriteNo};
 
 // What a panel is doing: nothing; writing (line 3); reading, first wait (line 7); reading, second wait with its sn (line 9).
@@ -16,6 +16,15 @@ pub enum Operation {
     Writing,
     FirstWait,
     SecondWait(WriteNo),
+}
+
+impl Operation {
+    #[tactic(auto, unfolding(crate::specs::Form::idle))]
+    pub fn is_idle(self) -> bool
+        ensures { result ≡ idle self }
+    {
+        matches!(self, Operation::Idle)
+    }
 }
 
 // The tables of panel `number` of `n`, of which `t` may be down. Place 0 of a table is panel 1.
@@ -33,123 +42,99 @@ pub struct Tables {
     pub operation: Operation,
 }
 
+#[tactic(auto, unfolding(crate::specs::Form::fits, basics::specs::Choice::both))]
 pub fn fits(n: u8, t: u8, writer: u8) -> bool
     ensures { result ≡ fits n t writer }
 {
-    let small = 2 * wide(t) < wide(n);
-    both(
-        1 <= n,
-        both(n <= 7, both(small, both(1 <= writer, writer <= n))),
-    )
+    1 <= n && n <= 7 && 2 * u32::from(t) < u32::from(n) && 1 <= writer && writer <= n
 }
 
+#[tactic(auto, unfolding(crate::specs::Form::is_panel, basics::specs::Choice::both))]
 pub fn is_panel(n: u8, j: u8) -> bool
     ensures { result ≡ is_panel n j }
 {
-    both(1 <= j, j <= n)
+    1 <= j && j <= n
 }
 
-// One place: its numbers and those of the panel itself, its hold and its line; whether the place is past n, and the panel's own.
-fn place_with(
-    wj: WriteNo,
-    wi: WriteNo,
-    rj: ReadNo,
-    ri: ReadNo,
-    h: Hold,
-    l: Line,
-    at_writer: bool,
-    past: bool,
-    own: bool,
-) -> bool
-    ensures { result ≡ place_with wj.0 wi.0 rj.0 ri.0 h l at_writer past own }
+// One place: its numbers beside those of the panel itself, its hold and its line. All tests are made, without a branch.
+#[tactic(auto, unfolding(crate::specs::Form::place_ok, crate::specs::Form::place_with, crate::specs::Form::at_writer))]
+fn place_ok(p: &Tables, j: usize) -> bool
+    requires sized { Sized p.now }
+    requires within { j < 7 }
+    ensures { result ≡ place_ok p.now j }
 {
-    let hold = tables::hold_ok(h, wj, wi, at_writer);
-    let line = tables::line_ok(l, wj, wi);
-    let quiet = tables::quiet_ok(h, l);
-    let idle = choose(choose(past, true, own), quiet, true);
-    let zero = choose(past, both(wj.0 == 0, rj.0 == 0), true);
+    let own = usize::from(p.number) - 1;
+    let w = p.w[j];
+    let r = p.r[j];
+    let hold = tables::hold_ok(p.held[j], w, p.w[own], p.number == p.writer);
+    let line = tables::line_ok(p.lines[j], w, p.w[own]);
+    let quiet = tables::quiet_ok(p.held[j], p.lines[j]);
+    let past = usize::from(p.n) <= j;
+    let idle = choose(choose(past, true, j == own), quiet, true);
+    let zero = choose(past, both(w.0 == 0, r.0 == 0), true);
     both(
-        wj.0 <= wi.0,
-        both(rj.0 <= ri.0, both(hold, both(line, both(idle, zero)))),
+        w.0 <= p.w[own].0,
+        both(r.0 <= p.r[own].0, both(hold, both(line, both(idle, zero)))),
     )
 }
 
-// The parts of a place are taken out before they are handed on: a call takes its tables by value, and that is a copy.
-fn places_ok(p: Tables) -> bool
-    requires { Sized p }
-    ensures { result ≡ all_below 7 (place_ok p) }
+#[tactic(auto, unfolding(basics::specs::Below::all_below), using(crate::proofs::InForming::places))]
+fn places_ok(p: &Tables) -> bool
+    requires { Sized p.now }
+    ensures { result ≡ all_below 7 (place_ok p.now) }
 {
-    let end = wide(p.n);
-    let number = wide(p.number);
-    let wi = p.w[number - 1];
-    let ri = p.r[number - 1];
-    let at_writer = p.number == p.writer;
     let mut ok = true;
-    let mut j = 0;
-    while j < 7 {
-        let wj = p.w[j];
-        let rj = p.r[j];
-        let h = p.held[j];
-        let l = p.lines[j];
-        let e = place_with(wj, wi, rj, ri, h, l, at_writer, end <= j, j + 1 == number);
-        ok = both(ok, e);
-        j += 1;
+    for j in 0..7 {
+        ok = both(ok, place_ok(p, j));
     }
     ok
 }
 
+#[tactic(auto, unfolding(crate::specs::Form::operation_ok, basics::specs::Choice::both))]
 fn operation_ok(o: Operation, at_writer: bool, x: WriteNo, y: ReadNo) -> bool
     ensures { result ≡ operation_ok o at_writer x.0 y.0 }
 {
     match o {
         Operation::Idle => true,
-        Operation::Writing => both(at_writer, 1 <= x.0),
+        Operation::Writing => at_writer && 1 <= x.0,
         Operation::FirstWait => 1 <= y.0,
-        Operation::SecondWait(sn) => both(1 <= y.0, sn.0 <= x.0),
+        Operation::SecondWait(sn) => 1 <= y.0 && sn.0 <= x.0,
     }
 }
 
+#[tactic(auto, unfolding(crate::specs::Form::in_form, crate::specs::Form::at_writer, basics::specs::Choice::both), using(crate::proofs::InForming::places))]
 pub fn in_form(p: Tables) -> bool
     ensures { result ≡ in_form p }
 {
-    if !fits(p.n, p.t, p.writer) {
+    if !fits(p.n, p.t, p.writer) || !is_panel(p.n, p.number) {
         return false;
     }
-    if !is_panel(p.n, p.number) {
-        return false;
-    }
-    let i = wide(p.number) - 1;
-    let wi = p.w[i];
-    let ri = p.r[i];
-    let h = p.history;
-    let o = p.operation;
-    let places = places_ok(p);
-    let history = tables::history_ok(h, wi);
-    let operation = operation_ok(o, p.number == p.writer, wi, ri);
-    both(
-        wi.0 <= 200,
-        both(ri.0 <= 100, both(places, both(history, operation))),
-    )
+    let own = usize::from(p.number) - 1;
+    let w = p.w[own];
+    let r = p.r[own];
+    w.0 <= 200
+        && r.0 <= 100
+        && places_ok(&p)
+        && tables::history_ok(p.history, w)
+        && operation_ok(p.operation, p.number == p.writer, w, r)
 }
 
-fn empty_line() -> Line
-    ensures { result ≡ empty_line }
-{
-    Line {
-        len: 0,
-        sn: [WriteNo(0); 100],
-    }
-}
+const NO_HOLD: Hold = Hold {
+    full: false,
+    value: 0,
+};
 
+const EMPTY_LINE: Line = Line {
+    len: 0,
+    sn: [WriteNo(0); 100],
+};
+
+#[tactic(auto, unfolding(crate::specs::Form::fresh, crate::specs::Form::empty_line))]
 pub fn fresh(n: u8, t: u8, writer: u8, number: u8, initial: u32) -> Tables
     ensures { result ≡ fresh n t writer number initial }
 {
-    let mut history = [0u32; 201];
+    let mut history = [0; 201];
     history[0] = initial;
-    let hold = Hold {
-        full: false,
-        value: 0,
-    };
     Tables {
         n,
         t,
@@ -158,8 +143,8 @@ pub fn fresh(n: u8, t: u8, writer: u8, number: u8, initial: u32) -> Tables
         w: [WriteNo(0); 7],
         r: [ReadNo(0); 7],
         history,
-        held: [hold; 7],
-        lines: [empty_line(); 7],
+        held: [NO_HOLD; 7],
+        lines: [EMPTY_LINE; 7],
         operation: Operation::Idle,
     }
 }

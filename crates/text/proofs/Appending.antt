@@ -1,28 +1,11 @@
 -- The laws of a text with bytes behind it: one after the other, a number's last digit first, and from nothing.
 -- Assumes nothing.
-use mathlib.Core.{List.{List, [], ◌∷◌, ◌++◌}, Path.{◌≡◌, refl, sym, ap, ◌∙◌}}
-use Prim.Native.Nat.{ℕ, zero, suc, ◌+◌, ◌-◌, ◌/◌, ◌%◌, ◌≤◌, ◌<◌}
+use mathlib.Core.{List.{List, ◌++◌}, Path.{◌≡◌, sym, ap, ◌∙◌}}
+use Prim.Native.Nat.{ℕ, zero, suc, ◌+◌, ◌-◌, ◌≤◌}
 use native.Mathlib.{Nat.{zero-add, sub-zero, zero-sub, suc-sub-suc}, Omega.arith}
-use lib.{ListN.{length, set, take, drop, replicate, length-append, length-replicate}, Seq.{sets, sets-eq, set_comm, take-append_seam}}
+use lib.{ListN.{length, take, drop, replicate, length-append, length-replicate}, Seq.{sets-eq, take-append_seam}}
 use Rattle.basics.proofs.Lists.{sets-append}
-use Rattle.text.specs.{Text.{dec, text_of, appended, Appended}, declared.Text.Text}
-use Rattle.text.proofs.Decimal.{dec-small, dec-more, length-small}
-
--- a store behind what is laid may come first
-set_first : (xs l : List ℕ) (i j d : ℕ) → i + length xs ≤ j → sets (set l j d) i xs ≡ set (sets l i xs) j d
-set_first [] l i j d h = refl
-set_first (x ∷ xs) l i j d h =
-    ap (λ (m : List ℕ). sets m (suc i) xs) (set_comm l j i d x (omega arith))
-    ∙ set_first xs (set l i x) (suc i) j d (omega arith)
-
--- the last digit is laid, and then the others
-pub digit-first : (n : ℕ) (l : List ℕ) (i j : ℕ) → 10 ≤ n → j ≡ i + length (dec (n / 10)) →
-    sets (set l j (48 + n % 10)) i (dec (n / 10)) ≡ sets l i (dec n)
-digit-first n l i j h e =
-    set_first (dec (n / 10)) l i j (48 + n % 10) (omega arith)
-    ∙ ap (λ (k : ℕ). set (sets l i (dec (n / 10))) k (48 + n % 10)) e
-    ∙ sym (sets-append (dec (n / 10)) ((48 + n % 10) ∷ []) l i)
-    ∙ ap (sets l i) (sym (dec-more n h))
+use Rattle.text.specs.{Text.{text_of, appended, Appended}, declared.Text.Text}
 
 text-alike : {k m : ℕ} {xs ys : List ℕ} → k ≡ m → xs ≡ ys → ◌≡◌ {A = Text} (record { length = k; bytes = xs }) (record { length = m; bytes = ys })
 text-alike p q = λ i. record { length = p i; bytes = q i }
@@ -47,17 +30,8 @@ behind {t} {a = a} {b = b} p q =
     }
 
 -- by another name, at another bound
-pub named : {t r : Text} {bs : List ℕ} {j : ℕ} (k : ℕ) {cs : List ℕ} → cs ≡ bs → length cs ≤ k → Appended t bs j r → Appended t cs k r
-named {t} k e h p = appends k (p.text ∙ ap (appended t) (sym e)) h
-
--- the first digit, laid last
-pub number-laid : (t : Text) (n k : ℕ) (l : List ℕ) (at d : ℕ) → k ≡ length (dec n) → d < 10 → at + 1 ≡ t.length + length (dec d) →
-    sets l t.length (dec d) ≡ sets t.bytes t.length (dec n) →
-    ◌≡◌ {A = Text} (record { length = t.length + k; bytes = set l at (48 + d) }) (appended t (dec n))
-unfolding appended
-number-laid t n k l at d e h first rest =
-    let place : at ≡ t.length = omega (arith, length-small d h) in
-    text-alike (ap (λ (m : ℕ). t.length + m) e) (ap (λ (m : ℕ). set l m (48 + d)) place ∙ ap (sets l t.length) (sym (dec-small d h)) ∙ rest)
+pub named : {t r : Text} {bs : List ℕ} {j : ℕ} (k : ℕ) {cs : List ℕ} → cs ≡ bs → length bs ≤ k → Appended t bs j r → Appended t cs k r
+named {t} k e h p = appends k (p.text ∙ ap (appended t) (sym e)) (omega (arith, ap length e))
 
 -- ---- from nothing
 

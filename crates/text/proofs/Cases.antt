@@ -3,30 +3,34 @@
 use mathlib.Core.{List.{List, [], ◌∷◌, map}, Path.{◌≡◌, refl}}
 use Prim.Native.Nat.{ℕ}
 use lib.ListN.{length}
-use Rattle.basics.specs.Choice.{ite}
-use Rattle.text.specs.{Text.{leading, dec, panel_text, result_text, fields, spaced, line_text}, declared.Line.Line}
+use Rattle.std.specs.Prelude.{Option, Some, None}
+use Rattle.text.specs.Text.{leading, dec, first_panel, second_panel, panel_text, result_text, fields, spaced, line_text}
+use Rattle.text.specs.declared.{Line.Line, Noted.Noted, Panels.{Panels, TheVariants.{Neither, One, Two}}}
 
-row : ℕ → ℕ → ℕ → ℕ → ℕ → ℕ → ℕ → ℕ → Line
-row step kind shown a b answer tag number =
-    record { step = step; kind = kind; shown = shown; a = a; b = b; answer = answer; tag = tag; number = number }
+row : ℕ → ℕ → Panels → ℕ → Option Noted → Line
+row step kind panels answer result =
+    record { step = step; kind = kind; panels = panels; answer = answer; result = result }
+
+noted : ℕ → ℕ → Option Noted
+noted letter number = Some (record { letter = letter; number = number })
 
 -- the steps of the listing
 listed : List Line
 listed =
-    row 1 0 0 0 0 0 0 0
-    ∷ row 2 1 0 0 0 0 0 0
-    ∷ row 3 4 2 1 2 0 0 0
-    ∷ row 4 4 2 2 1 0 119 1
-    ∷ row 5 2 1 3 0 0 0 0
-    ∷ row 6 4 2 1 3 0 0 0
-    ∷ row 7 4 2 2 3 0 0 0
-    ∷ row 8 4 2 3 1 0 0 0
-    ∷ row 9 5 2 3 1 0 0 0
-    ∷ row 10 6 2 1 3 0 114 650
-    ∷ row 11 4 2 3 2 0 0 0
-    ∷ row 12 5 2 3 2 0 0 0
-    ∷ row 13 6 2 2 3 0 0 0
-    ∷ row 14 8 0 0 0 0 100 8
+    row 1 0 Neither 0 None
+    ∷ row 2 1 Neither 0 None
+    ∷ row 3 4 (Two 1 2) 0 None
+    ∷ row 4 4 (Two 2 1) 0 (noted 119 1)
+    ∷ row 5 2 (One 3) 0 None
+    ∷ row 6 4 (Two 1 3) 0 None
+    ∷ row 7 4 (Two 2 3) 0 None
+    ∷ row 8 4 (Two 3 1) 0 None
+    ∷ row 9 5 (Two 3 1) 0 None
+    ∷ row 10 6 (Two 1 3) 0 (noted 114 650)
+    ∷ row 11 4 (Two 3 2) 0 None
+    ∷ row 12 5 (Two 3 2) 0 None
+    ∷ row 13 6 (Two 2 3) 0 None
+    ∷ row 14 8 Neither 0 (noted 100 8)
     ∷ []
 
 -- its lines after the first: `1 0 - - 0 -` up to `14 8 - - 0 d8`
@@ -49,16 +53,16 @@ shown =
     ∷ []
 
 listing-shown : map line_text listed ≡ shown
-unfolding listed shown row line_text fields spaced panel_text result_text dec leading ite
+unfolding listed shown row noted line_text fields spaced first_panel second_panel panel_text result_text dec leading
 listing-shown = refl
 
--- `2 7 3 - 10 -`: a power loss refused; `1 9 - - 15 -`: an unknown kind. What stands in places that are not shown does not matter
+-- `2 7 3 - 10 -`: a power loss refused; `1 9 - - 15 -`: an unknown kind
 refusals-shown :
-    (line_text (row 2 7 1 3 9 10 0 5) ≡ 50 ∷ 32 ∷ 55 ∷ 32 ∷ 51 ∷ 32 ∷ 45 ∷ 32 ∷ 49 ∷ 48 ∷ 32 ∷ 45 ∷ 10 ∷ [])
-    × (line_text (row 1 9 0 7 7 15 0 0) ≡ 49 ∷ 32 ∷ 57 ∷ 32 ∷ 45 ∷ 32 ∷ 45 ∷ 32 ∷ 49 ∷ 53 ∷ 32 ∷ 45 ∷ 10 ∷ [])
-unfolding row line_text fields spaced panel_text result_text dec leading ite
+    (line_text (row 2 7 (One 3) 10 None) ≡ 50 ∷ 32 ∷ 55 ∷ 32 ∷ 51 ∷ 32 ∷ 45 ∷ 32 ∷ 49 ∷ 48 ∷ 32 ∷ 45 ∷ 10 ∷ [])
+    × (line_text (row 1 9 Neither 15 None) ≡ 49 ∷ 32 ∷ 57 ∷ 32 ∷ 45 ∷ 32 ∷ 45 ∷ 32 ∷ 49 ∷ 53 ∷ 32 ∷ 45 ∷ 10 ∷ [])
+unfolding row noted line_text fields spaced first_panel second_panel panel_text result_text dec leading
 refusals-shown = (refl, refl)
 
-longest : length (line_text (row 4294967295 255 2 255 255 255 114 4294967295)) ≡ 39
-unfolding row line_text fields spaced panel_text result_text dec leading ite
+longest : length (line_text (row 4294967295 255 (Two 255 255) 255 (noted 114 4294967295))) ≡ 39
+unfolding row noted line_text fields spaced first_panel second_panel panel_text result_text dec leading
 longest = refl

@@ -35,6 +35,10 @@ unfolding dec
 dec-small n h =
     ap₂ (λ (m d : ℕ). leading n m ++ ((48 + d) ∷ [])) (div-eq_of_lt h) (mod-eq_of_lt h) ∙ ap (λ (x : List ℕ). x ++ ((48 + n) ∷ [])) (leading-none n)
 
+-- the same by its last digit, which is the whole of it
+pub dec-digit : (n : ℕ) → n < 10 → dec n ≡ (48 + n % 10) ∷ []
+dec-digit n h = dec-small n h ∙ ap (λ (d : ℕ). (48 + d) ∷ []) (sym (mod-eq_of_lt h))
+
 pub dec-more : (n : ℕ) → 10 ≤ n → dec n ≡ dec (n / 10) ++ ((48 + n % 10) ∷ [])
 unfolding dec
 dec-more n h = ap (λ (x : List ℕ). x ++ ((48 + n % 10) ∷ [])) (leading-dec n (n / 10) (omega arith) (omega arith))

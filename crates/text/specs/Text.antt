@@ -1,10 +1,9 @@
 -- The text of the bench's listing, as numbers of bytes: "Lines end in LF; fields stand one space apart, numbers in decimal."
 -- Assumes nothing.
-use Rattle.std.specs.Prelude.{ℕ, zero, suc, ◌+◌, ◌-◌, ◌*◌, ◌/◌, ◌%◌, ◌≤◌}
-use mathlib.Core.{Bool.Bool, List.{List, [], ◌∷◌, ◌++◌}, Path.◌≡◌}
-use lib.{Dec.{ltb, eqb}, ListN.{length, replicate}, Seq.sets}
-use Rattle.basics.specs.Choice.{ite}
-use Rattle.text.specs.declared.{Line.Line, Text.Text}
+use Rattle.std.specs.Prelude.{ℕ, zero, suc, ◌+◌, ◌-◌, ◌*◌, ◌/◌, ◌%◌, ◌≤◌, Option, Some, None}
+use mathlib.Core.{List.{List, [], ◌∷◌, ◌++◌}, Path.◌≡◌}
+use lib.{ListN.{length, replicate}, Seq.sets}
+use Rattle.text.specs.declared.{Line.Line, Noted.Noted, Panels.{Panels, TheVariants.{Neither, One, Two}}, Text.Text}
 
 -- `step kind a b answer result` and LF
 unfoldable pub first_line : List ℕ
@@ -44,22 +43,35 @@ Digits (d ∷ ds) = (48 ≤ d) × (d ≤ 57) × Digits ds
 
 -- ---- a line
 
+-- the number in the place of a, and the number in the place of b
+unfoldable pub first_panel : Panels → Option ℕ
+first_panel Neither = None
+first_panel (One a) = Some a
+first_panel (Two a b) = Some a
+
+unfoldable pub second_panel : Panels → Option ℕ
+second_panel Neither = None
+second_panel (One a) = None
+second_panel (Two a b) = Some b
+
 -- a panel's number, or `-` where there is none
-unfoldable pub panel_text : Bool → ℕ → List ℕ
-panel_text shown n = ite shown (dec n) (45 ∷ [])
+unfoldable pub panel_text : Option ℕ → List ℕ
+panel_text None = 45 ∷ []
+panel_text (Some n) = dec n
 
 -- the letter of what finished and its number, or `-`
-unfoldable pub result_text : ℕ → ℕ → List ℕ
-result_text tag number = ite (eqb tag 0) (45 ∷ []) (tag ∷ dec number)
+unfoldable pub result_text : Option Noted → List ℕ
+result_text None = 45 ∷ []
+result_text (Some r) = r.letter ∷ dec r.number
 
 unfoldable pub fields : Line → List (List ℕ)
 fields l =
     dec l.step
     ∷ dec l.kind
-    ∷ panel_text (ltb 0 l.shown) l.a
-    ∷ panel_text (ltb 1 l.shown) l.b
+    ∷ panel_text (first_panel l.panels)
+    ∷ panel_text (second_panel l.panels)
     ∷ dec l.answer
-    ∷ result_text l.tag l.number
+    ∷ result_text l.result
     ∷ []
 
 -- one space apart

@@ -2,20 +2,55 @@
 #![tactic(auto)]
 
 ghost use Rattle.std.specs.Prelude.{◌≡◌, [], ◌∷◌, ◌+◌, ◌≤◌, ◌<◌, length};
-ghost use Rattle.text.specs.Text.{dec, panel_text, result_text, line_text, first_line, too_long, text_of, Appended};
+ghost use Rattle.text.specs.Text.{dec, first_panel, second_panel, panel_text, result_text, line_text, first_line, too_long, text_of, Appended};
 
-// A line. It shows no panel number where shown is 0, only a where it is 1, and else a and b. Its tag is 0 where nothing
-// finished; else it is the byte of a letter, with number behind it.
-#[derive(Clone, Copy)]
+// The panel numbers that a line shows: in the places of a and b, or of a alone.
+#[derive(Clone, Copy, Debug, PartialEq, Eq)]
+pub enum Panels {
+    Neither,
+    One(u8),
+    Two(u8, u8),
+}
+
+impl Panels {
+    #[tactic(auto, unfolding(crate::specs::Text::first_panel))]
+    fn first(self) -> Option<u8>
+        ensures { result ≡ first_panel self }
+    {
+        match self {
+            Panels::Neither => None,
+            Panels::One(a) => Some(a),
+            Panels::Two(a, _) => Some(a),
+        }
+    }
+
+    #[tactic(auto, unfolding(crate::specs::Text::second_panel))]
+    fn second(self) -> Option<u8>
+        ensures { result ≡ second_panel self }
+    {
+        match self {
+            Panels::Neither => None,
+            Panels::One(_) => None,
+            Panels::Two(_, b) => Some(b),
+        }
+    }
+}
+
+// What finished: its letter's byte, and its number.
+#[derive(Clone, Copy, Debug, PartialEq, Eq)]
+pub struct Noted {
+    pub letter: u8,
+    pub number: u32,
+}
+
+// A line of the listing, field by field.
+#[derive(Clone, Copy, Debug, PartialEq, Eq)]
 pub struct Line {
     pub step: u32,
     pub kind: u8,
-    pub shown: u8,
-    pub a: u8,
-    pub b: u8,
+    pub panels: Panels,
     pub answer: u8,
-    pub tag: u8,
-    pub number: u32,
+    pub result: Option<Noted>,
 }
 
 // The first length bytes; those past them are zero.
@@ -37,91 +72,72 @@ pub fn too_long() -> [u8; 9]
     *b"too long\n"
 }
 
-// How many digits a number has in decimal.
-fn digits(n: u32) -> usize
-    ensures { result ≡ length (dec n) }
-{
-    let mut count: usize = 1;
-    let mut left = n;
-    while 10 <= left {
-        left = left / 10;
-        count += 1;
-    }
-    count
-}
+// A text with more behind it.
+impl Text {
+    const EMPTY: Text = Text {
+        length: 0,
+        bytes: [0; 40],
+    };
 
-// ---- a text with more behind it
+    #[tactic(auto, unfolding(crate::specs::Text::appended))]
+    fn with_byte(self, b: u8) -> Text
+        requires { self.length < 40 }
+        ensures { Appended self (b ∷ []) 1 result }
+    {
+        let mut bytes = self.bytes;
+        bytes[self.length] = b;
+        Text {
+            length: self.length + 1,
+            bytes,
+        }
+    }
 
-fn with_byte(t: Text, b: u8) -> Text
-    requires { t.length < 40 }
-    ensures { Appended t (b ∷ []) 1 result }
-{
-    let at = t.length;
-    let mut bytes = t.bytes;
-    bytes[at] = b;
-    Text {
-        length: at + 1,
-        bytes,
+    // The digits in front of the last, and then the last.
+    fn with_number(self, n: u32) -> Text
+        requires { self.length + length (dec n) ≤ 40 }
+        ensures { Appended self (dec n) 10 result }
+    {
+        let last = b'0' + (n % 10) as u8;
+        if n < 10 {
+            self.with_byte(last)
+        } else {
+            self.with_number(n / 10).with_byte(last)
+        }
     }
-}
 
-// The last digit first.
-fn with_number(t: Text, n: u32) -> Text
-    requires { t.length + length (dec n) ≤ 40 }
-    ensures { Appended t (dec n) 10 result }
-{
-    let start = t.length;
-    let count = digits(n);
-    let mut bytes = t.bytes;
-    let mut left = n;
-    let mut at = start + count - 1;
-    while 10 <= left {
-        bytes[at] = 48 + (left % 10) as u8;
-        left = left / 10;
-        at -= 1;
+    // A space and a number, or `-` in its place.
+    fn with_panel(self, panel: Option<u8>) -> Text
+        requires { self.length + 4 ≤ 40 }
+        ensures { Appended self (32 ∷ panel_text panel) 4 result }
+    {
+        let spaced = self.with_byte(b' ');
+        match panel {
+            Some(n) => spaced.with_number(u32::from(n)),
+            None => spaced.with_byte(b'-'),
+        }
     }
-    bytes[at] = 48 + left as u8;
-    Text {
-        length: start + count,
-        bytes,
-    }
-}
 
-// A space and a number, or `-` in its place.
-fn with_field(t: Text, there: bool, n: u8) -> Text
-    requires { t.length + 4 ≤ 40 }
-    ensures { Appended t (32 ∷ panel_text there n) 4 result }
-{
-    let s = with_byte(t, b' ');
-    if there {
-        with_number(s, n as u32)
-    } else {
-        with_byte(s, b'-')
+    fn with_result(self, finished: Option<Noted>) -> Text
+        requires { self.length + 12 ≤ 40 }
+        ensures { Appended self (32 ∷ result_text finished) 12 result }
+    {
+        let spaced = self.with_byte(b' ');
+        match finished {
+            Some(r) => spaced.with_byte(r.letter).with_number(r.number),
+            None => spaced.with_byte(b'-'),
+        }
     }
-}
-
-fn with_result(t: Text, tag: u8, number: u32) -> Text
-    requires { t.length + 12 ≤ 40 }
-    ensures { Appended t (32 ∷ result_text tag number) 12 result }
-{
-    let s = with_byte(t, b' ');
-    if tag == 0 {
-        return with_byte(s, b'-');
-    }
-    let u = with_byte(s, tag);
-    with_number(u, number)
 }
 
 pub fn line_text(l: Line) -> Text
     ensures { (result ≡ text_of (line_text l)) × (result.length ≤ 39) }
 {
-    let bytes = [0u8; 40];
-    let empty = Text { length: 0, bytes };
-    let step = with_number(empty, l.step);
-    let kind = with_field(step, true, l.kind);
-    let a = with_field(kind, 0 < l.shown, l.a);
-    let b = with_field(a, 1 < l.shown, l.b);
-    let answer = with_field(b, true, l.answer);
-    let result = with_result(answer, l.tag, l.number);
-    with_byte(result, b'\n')
+    Text::EMPTY
+        .with_number(l.step)
+        .with_panel(Some(l.kind))
+        .with_panel(l.panels.first())
+        .with_panel(l.panels.second())
+        .with_panel(Some(l.answer))
+        .with_result(l.result)
+        .with_byte(b'\n')
 }

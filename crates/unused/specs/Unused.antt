@@ -1,11 +1,12 @@
 -- When a panel's tables are unused: "everything unused is zero", as of the panels that a network has past n.
 -- Assumes nothing.
 use Rattle.std.specs.Prelude.{ℕ}
-use mathlib.Core.{Bool.{Bool, true, false, not}, List.List}
+use mathlib.Core.{Bool.{Bool, not}, List.List}
 use lib.{Dec.eqb, ListN.get_or}
 use Rattle.basics.specs.{Below.all_below, Choice.both}
 use Rattle.tables.specs.{Places.{w_at, r_at, hold_at, line_at}, declared.Hold.Hold, declared.Line.Line}
-use Rattle.form.specs.declared.{Operation.Operation, Operation.TheVariants.{Idle, Writing, FirstWait, SecondWait}, Tables.Tables}
+use Rattle.form.specs.declared.Tables.{Tables}
+unfoldable pub use Rattle.form.specs.Form.{idle}
 
 -- the entry at place k of a line, and the value at place k of a history
 unfoldable pub entry_zero : Line → ℕ → Bool
@@ -26,12 +27,6 @@ place_with x y h l = both (eqb x 0) (both (eqb y 0) (both (not h.full) (both (eq
 
 unfoldable pub place_unused : Tables → ℕ → Bool
 place_unused p j = place_with (w_at p.w j) (r_at p.r j) (hold_at p.held j) (line_at p.lines j)
-
-unfoldable pub idle : Operation → Bool
-idle Idle = true
-idle Writing = false
-idle FirstWait = false
-idle (SecondWait sn) = false
 
 unfoldable pub unused : Tables → Bool
 unused p =

@@ -1,20 +1,15 @@
-use borrow.Author.Rules.{rules}
-use lib.ListN.{length, length-set}
-use mathlib.Core.{Path.{ap, refl, ◌∙◌}}
+use mathlib.Core.{Path.refl}
 use native.Mathlib.Omega.{arith}
-use Rattle.carried.proofs.{Rows.{laid-byte, laid_then, laid-length, rows_start, rows-turn, rows_end}}
-use Rattle.carried.specs.{Panels.{line_bytes}}
+use Rattle.carried.proofs.{Rows.{laid-byte, laid_then, rows_start, rows-turn, rows_end}}
+use Rattle.carried.specs.Panels.{line_bytes}
 use Rattle.carried.proofs.put_line.Goals as goal
 
 pub loop-k-init : goal.loop-k-init
-loop-k-init c = (search rules, rows_start _ _ _)
+loop-k-init c = rows_start _ _ _
 
 pub loop-k-preserved : goal.loop-k-preserved
-loop-k-preserved c = (omega arith, rows-turn 1 _ (λ k. refl) _ _ c.loop-k.invariant.1 (omega arith) (laid-byte c.put_byte-in-loop-k.ensures))
-
-pub shape_of-out : goal.shape_of-out
-shape_of-out c = laid-length c.loop-k.invariant.1 ∙ ap length c.put_byte.ensures ∙ simp length-set
+loop-k-preserved c = rows-turn 1 _ (λ k. refl) _ _ c.loop-k.invariant (omega arith) (laid-byte c.put_byte-in-loop-k.ensures)
 
 pub returns : goal.returns
 unfolding line_bytes
-returns c = laid_then 1 (laid-byte c.put_byte.ensures) refl refl (rows_end _ 100 (omega arith) c.loop-k.invariant.1)
+returns c = laid_then 1 (laid-byte c.put_byte.ensures) refl refl (rows_end _ 100 (omega arith) c.loop-k.invariant)

@@ -1,11 +1,8 @@
-use Prim.Native.Nat.{ℕ, ◌+◌, ◌≤◌, ◌-◌}
+use Prim.Native.Nat.{ℕ, ◌+◌}
 use mathlib.Core.{List.{[], ◌∷◌}}
 use Rattle.tables.specs.Places.{w_at}
 use Rattle.carried.specs.{Laid.Laid, Panels.{rows_below}}
 use Rattle.carried.proofs.put_line.Given as goal
 
 abbrev pub invariant-loop-k : goal.invariant-loop-k
-invariant-loop-k v = (v.k ≤ 100) × Laid v.initial.out (v.at + 1) (rows_below v.k (λ (i : ℕ). w_at v.l.sn i ∷ [])) v.out
-
-abbrev pub decreases-loop-k : goal.decreases-loop-k
-decreases-loop-k v = 100 - v.k
+invariant-loop-k v = Laid v.initial.out (v.at + 1) (rows_below v.k (λ (i : ℕ). w_at v.fn.l.sn i ∷ [])) v.out
