@@ -2,17 +2,15 @@
 // message in flight to a live panel. Every call here takes any network and any numbers.
 #![tactic(auto)]
 
-ghost use Rattle.std.specs.Prelude.{◌≡◌, true, not, ℕ, ◌≤◌, ◌<◌, length};
+ghost use Rattle.std.specs.Prelude.{◌≡◌, true, not, ◌≤◌, ◌<◌};
 ghost use Rattle.basics.specs.Choice.{both};
-ghost use Rattle.basics.specs.Below.{all_below, one_if};
-ghost use Rattle.form.specs.Shape.{Shaped};
+ghost use Rattle.basics.specs.Below.{all_below};
 ghost use Rattle.unused.specs.Unused.{unused};
-ghost use Rattle.house.specs.Places.{row_at, tables_at};
 ghost use Rattle.house.specs.NetForm.{member_with, place_with, place_ok, channels_ok, downs_in, may_be_down, net_form};
 ghost use Rattle.house.specs.Search.{flying, first_in};
 ghost use Rattle.house.specs.Whole.{Whole};
 
-use basics::{both, one_if, wide};
+use basics::{both, wide};
 use channels::Row;
 use panel::Panel;
 
@@ -72,35 +70,33 @@ impl Setting {
         ensures { result ≡ place_with p.tables down self.n self.t self.writer self.initial i }
     {
         if i < wide(self.n) {
-            return self.member_ok(p, (i + 1) as u8);
+            self.member_ok(p, (i + 1) as u8)
+        } else {
+            nothing_at(p, down)
         }
-        nothing_at(p, down)
     }
 }
 
 fn nothing_at(p: Panel, down: bool) -> bool
     ensures { result ≡ both (unused p.tables) (not down) }
 {
-    let q = p.tables;
-    both(unused::unused(q), !down)
+    both(unused::unused(p.tables), !down)
 }
 
 #[tactic(auto, using(crate::proofs::Turns::all_turns), unfolding(crate::specs::NetForm::place_ok, events::specs::Rules::value_of))]
 fn places_ok(s: Network) -> bool
     ensures { result ≡ all_below 7 (place_ok s) }
 {
-    let first = s.panels[0];
-    let f = first.tables;
+    let first = &s.panels[0].tables;
     let setting = Setting {
-        n: f.n,
-        t: f.t,
-        writer: f.writer,
-        initial: f.history[0],
+        n: first.n,
+        t: first.t,
+        writer: first.writer,
+        initial: first.history[0],
     };
     let mut ok = true;
     for i in 0..7 {
-        let e = setting.place_ok(s.panels[i], s.down[i], i);
-        ok = both(ok, e);
+        ok = both(ok, setting.place_ok(s.panels[i], s.down[i], i));
     }
     ok
 }
@@ -109,8 +105,7 @@ fn places_ok(s: Network) -> bool
 fn rows_ok(s: Network) -> bool
     ensures { result ≡ all_below 7 (channels_ok s) }
 {
-    let first = s.panels[0];
-    let n = first.tables.n;
+    let n = s.panels[0].tables.n;
     let mut ok = true;
     for i in 0..7 {
         ok = both(ok, channels::row_ok(s.rows[i], n, i));
@@ -137,13 +132,12 @@ pub fn may_be_down(t: u8, m: usize) -> bool
 pub fn in_form(s: Network) -> bool
     ensures { result ≡ net_form s }
 {
-    let first = s.panels[0];
-    let f = first.tables;
-    let down = s.down;
+    let n = s.panels[0].tables.n;
+    let t = s.panels[0].tables.t;
     let rows = rows_ok(s);
-    let few = may_be_down(f.t, downs(down));
+    let few = may_be_down(t, downs(s.down));
     let places = places_ok(s);
-    both(1 <= f.n, both(places, both(few, rows)))
+    both(1 <= n, both(places, both(few, rows)))
 }
 
 // ---- the search
