@@ -7,7 +7,6 @@ ghost use Rattle.refusals.specs.Refusals.Event.{write, read, write_from, read_fr
 ghost use Rattle.panel.specs.Calls.{called, told};
 ghost use Rattle.edges.specs.Columns.{columns, columns_of, message_at, poured};
 
-use basics::least;
 use events::Done;
 use messages::Sends;
 use panel::{Outcome, Panel};
@@ -43,9 +42,9 @@ fn columns_of(s: Sends) -> Columns
     }
 }
 
-fn message_at(c: Columns, k: usize) -> Message
+fn message_at(c: &Columns, k: usize) -> Message
     requires { k < 269 }
-    ensures { result ≡ message_at c k }
+    ensures { result ≡ message_at c.now k }
 {
     Message {
         to: c.receivers[k],
@@ -56,9 +55,9 @@ fn message_at(c: Columns, k: usize) -> Message
 
 // The first n messages go to their places, the last of them first.
 #[tactic(auto, using(crate::proofs::Pouring::pours))]
-fn pour(c: Columns, n: usize, area: &mut [Message])
+fn pour(c: &Columns, n: usize, area: &mut [Message])
     requires { (n ≤ 269) × (n ≤ length area.old) }
-    ensures { area.new ≡ poured c n area.old }
+    ensures { area.new ≡ poured c.now n area.old }
 {
     for k in (0..n).rev() {
         area[k] = message_at(c, k);
@@ -72,7 +71,7 @@ fn tell(d: Done, area: &mut [Message]) -> Outcome
 {
     let columns = columns_of(d.sends);
     let count = columns.count;
-    pour(columns, least(count, area.len()), area);
+    pour(&columns, count.min(area.len()), area);
     Outcome {
         panel: Panel { tables: d.tables },
         answer: d.answer,
