@@ -7,4 +7,4 @@ use Rattle.conveyed.proofs.member_from.Goals as goal
 
 pub returns : goal.returns
 unfolding member_from
-returns c = ap panel_of (c.panel_from.ensures ∙ ap panel_from (part-within _ _ _ c.within-from.ensures))
+returns c = ap panel_of (c.panel_from.ensures ∙ ap panel_from (part-within _ _ _ c.min-from.ensures))
