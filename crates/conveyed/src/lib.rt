@@ -18,6 +18,7 @@ use tables::Hold;
 
 // ---- out of bytes
 
+#[tactic(auto, using(crate::proofs::Parts::parts), unfolding(crate::specs::Networks::member_from))]
 fn member_from(bytes: &[u8], at: usize) -> Panel
     ensures { result ≡ member_from bytes.now at }
 {
@@ -100,6 +101,7 @@ pub fn network_from(bytes: &[u8]) -> Network
 
 // ---- into bytes
 
+#[tactic(auto, using(crate::proofs::Parts::parts))]
 fn put_member(p: Panel, at: usize, out: &mut [u8])
     ensures { Laid out.old at (panel_bytes p.tables) out.new }
 {
