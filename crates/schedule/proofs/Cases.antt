@@ -11,7 +11,7 @@ use borrow.Rule.Slice.PartMut.{put_mid}
 use Rattle.std.proofs.lemmas.Slice.{put_mid-paste}
 use Rattle.basics.proofs.Lists.{sets-append}
 use Rattle.std.proofs.lemmas.List.{get_or-take, get_or-drop, get_or_past}
-use Rattle.basics.specs.declared.refused.Refusal.{Refusal, TheVariants.{AreaTooShort, UnknownKind, CutShort}}
+use Rattle.basics.specs.declared.refused.Refusal.{TheVariants.{AreaTooShort, UnknownKind, CutShort}}
 use Rattle.codec.proofs.Items.{item-none, item-unknown, item-cut, item-whole}
 use Rattle.codec.specs.{Items.{total, size_of, body_of, written, numbers_at, item_at}, Numbers.{bytes_of, number_at, Bytes}}
 use Rattle.schedule.specs.Records.{singles, carries, row, records, item_of, bytes_of_record, single, value_behind, record_of, refusal_of, refusing, answered, reading, clear, writable, writing}

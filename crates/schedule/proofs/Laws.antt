@@ -5,7 +5,7 @@
 use mathlib.Core.{Bool.true, List.{List, [], ◌∷◌, ◌++◌}, Logic.{◌⊎◌, inl, inr, ◌↔◌}, Path.{◌≡◌, refl, sym, ap, subst, ◌∙◌}}
 use Prim.Native.Nat.{ℕ, ◌+◌, ◌^◌, ◌≤◌, ◌<◌}
 use native.Mathlib.Omega.{arith}
-use lib.{Dec.{ltb, lit<}, ListN.{length, get_or, take, drop}}
+use lib.{Dec.{ltb}, ListN.{length, get_or, take, drop}}
 use borrow.Author.Tests.{ltb-true}
 use Rattle.std.specs.Prelude.{Result, Ok, Err}
 use Rattle.basics.specs.declared.refused.Refusal.{Refusal, TheVariants.{UnknownKind, CutShort}}

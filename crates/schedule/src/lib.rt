@@ -38,8 +38,7 @@ const LENGTHS: [usize; 9] = [7, 4, 1, 2, 2, 2, 2, 1, 0];
 fn body_length(kind: u8) -> usize
     ensures { (result ≡ get_or lengths kind 0) × (result ≤ 7) }
 {
-    let k = usize::from(kind);
-    if k < LENGTHS.len() { LENGTHS[k] } else { 0 }
+    LENGTHS.get(usize::from(kind)).copied().unwrap_or(0)
 }
 
 // How many bytes a record of this kind has; a byte that is no kind counts one.
