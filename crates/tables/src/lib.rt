@@ -2,7 +2,7 @@
 // tables and any numbers.
 #![tactic(auto)]
 
-ghost use Rattle.std.specs.Prelude.{◌≡◌, false, ℕ, ◌-◌, ◌≤◌, ◌<◌, leb, ltb, eqb, get_or};
+ghost use Rattle.std.specs.Prelude.{◌≡◌, Bool, false, ℕ, ◌-◌, ◌≤◌, ◌<◌, leb, ltb, eqb, get_or};
 ghost use Rattle.basics.specs.Choice.{ite, both};
 ghost use Rattle.basics.specs.Below.{one_if, count_below};
 ghost use Rattle.tables.specs.Marks.{has_w, reaches_w, has_r, is_other, marks, only_place};
@@ -10,24 +10,25 @@ ghost use Rattle.tables.specs.Form.{line_ok, hold_ok, quiet_ok, history_ok};
 ghost use Rattle.tables.specs.Lines.{joined, leaving, without};
 
 use basics::{both, choose, one_if, wide};
+use std::array;
 
 // How far a panel is known to be with writes. Never counted or compared as a read number.
-#[derive(Clone, Copy)]
+#[derive(Clone, Copy, Debug, PartialEq, Eq, PartialOrd, Ord)]
 pub struct WriteNo(pub u8);
 
 // Own reads, or the PROCEEDs of a peer. Never counted or compared as a write number.
-#[derive(Clone, Copy)]
+#[derive(Clone, Copy, Debug, PartialEq, Eq)]
 pub struct ReadNo(pub u8);
 
 // A held WRITE of a peer, if there is one.
-#[derive(Clone, Copy)]
+#[derive(Clone, Copy, Debug, PartialEq, Eq)]
 pub struct Hold {
     pub full: bool,
     pub value: u32,
 }
 
 // Waiting READs of a peer, oldest first, each with its write number.
-#[derive(Clone, Copy)]
+#[derive(Clone, Copy, Debug, PartialEq, Eq)]
 pub struct Line {
     pub len: u8,
     pub sn: [WriteNo; 100],
@@ -98,59 +99,47 @@ pub fn history_ok(history: [u32; 201], high: WriteNo) -> bool
 
 // ---- marks
 
+fn marked<F: Fn(usize) -> bool>(n: u8, test: F) -> [bool; 7]
+    requires { (j : ℕ) → j < 7 → F.pre test j }
+    ensures { (f : ℕ → Bool) → ((j : ℕ) → j < 7 → (b : Bool) → F.post test j b → b ≡ f j) → result ≡ marks n f }
+{
+    let end = usize::from(n);
+    array::from_fn(|j|
+        requires { F.pre test j }
+    {
+        both(j < end, test(j))
+    })
+}
+
 pub fn has_w(ws: [WriteNo; 7], n: u8, x: WriteNo) -> [bool; 7]
     ensures { result ≡ marks n (has_w ws x.0) }
 {
-    let end = wide(n);
-    let mut marked = [false; 7];
-    for j in 0..7 {
-        marked[j] = both(j < end, ws[j].0 == x.0);
-    }
-    marked
+    marked(n, |j| ws[j] == x)
 }
 
 pub fn reaches_w(ws: [WriteNo; 7], n: u8, x: WriteNo) -> [bool; 7]
     ensures { result ≡ marks n (reaches_w ws x.0) }
 {
-    let end = wide(n);
-    let mut marked = [false; 7];
-    for j in 0..7 {
-        marked[j] = both(j < end, x.0 <= ws[j].0);
-    }
-    marked
+    marked(n, |j| x <= ws[j])
 }
 
 pub fn has_r(rs: [ReadNo; 7], n: u8, y: ReadNo) -> [bool; 7]
     ensures { result ≡ marks n (has_r rs y.0) }
 {
-    let end = wide(n);
-    let mut marked = [false; 7];
-    for j in 0..7 {
-        marked[j] = both(j < end, rs[j].0 == y.0);
-    }
-    marked
+    marked(n, |j| rs[j] == y)
 }
 
 pub fn others(n: u8, me: u8) -> [bool; 7]
     ensures { result ≡ marks n (is_other me) }
 {
-    let end = wide(n);
-    let own = wide(me);
-    let mut marked = [false; 7];
-    for j in 0..7 {
-        marked[j] = both(j < end, j + 1 != own);
-    }
-    marked
+    let own = usize::from(me);
+    marked(n, |j| j + 1 != own)
 }
 
 pub fn only_place(k: usize) -> [bool; 7]
     ensures { result ≡ only_place k }
 {
-    let mut marked = [false; 7];
-    if k < 7 {
-        marked[k] = true;
-    }
-    marked
+    array::from_fn(|j| j == k)
 }
 
 pub fn enough(n: u8, t: u8, marked: [bool; 7]) -> bool
