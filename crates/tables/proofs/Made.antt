@@ -1,12 +1,12 @@
 -- What calls at each place in turn made is the list of what they gave.
 -- Assumes nothing.
-use mathlib.Core.{List.List, Logic.{◌⊎◌, inl, inr}, Path.{◌≡◌, sym, ap, subst, ◌∙◌}}
+use mathlib.Core.{List.List, Logic.{◌⊎◌, inl, inr}, Path.{◌≡◌, sym, subst, ◌∙◌}}
 use Prim.Native.Nat.{ℕ, zero, suc, ◌+◌, ◌≤◌, ◌<◌}
 use native.Mathlib.{Nat.eq-or-lt_of_le, Omega.arith}
-use lib.{ListN.{length, get_or}, Seq.ext_get_or}
+use lib.{ListN.{get_or}, Seq.ext_get_or}
 use denote.Param.Members.{Mut, Called}
-use Rattle.std.specs.{Array.{IsFromFnResult, IsFromFnResultFrom}, Iterator.ActsAs}
-use Rattle.basics.{proofs.Below.{length-list_below, get_or-list_below, last-or-below}, specs.Below.list_below}
+use Rattle.std.specs.{Array.{IsFromFnResult, IsFromFnResultFrom}}
+use Rattle.basics.{proofs.Below.{length-list_below, get_or-list_below}, specs.Below.list_below}
 
 module _ {F B : Type 0} (g : Mut F (ℕ × Unit {0}) B) (f : F) (n : ℕ) (h : ℕ → B) (acts : (x : ℕ) (r : B) (f' : F) → x < n → Called g f (x, tt) r f' → (f' ≡ f) × (r ≡ h x)) where
   each : (ys : List B) (d : B) (i m k : ℕ) → IsFromFnResultFrom g f ys i m → i + m ≤ n → i ≤ k → k < i + m → get_or ys k d ≡ h k
@@ -23,5 +23,5 @@ module _ {F B : Type 0} (g : Mut F (ℕ × Unit {0}) B) (f : F) (n : ℕ) (h : �
   pub made-by : {ys : List B} → IsFromFnResult g f ys n → ys ≡ list_below n h
   made-by {ys} made =
       ext_get_or (h 0) _ _ (made.long ∙ sym (length-list_below n h)) (λ i l.
-        let k : i < n = omega (arith, l, made.long) in
-        each ys (h 0) 0 n i made.each (omega arith) (omega arith) (omega arith) ∙ sym (get_or-list_below n h i (h 0) k))
+      let k : i < n = omega (arith, l, made.long) in
+      each ys (h 0) 0 n i made.each (omega arith) (omega arith) (omega arith) ∙ sym (get_or-list_below n h i (h 0) k))
