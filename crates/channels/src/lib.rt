@@ -205,6 +205,7 @@ pub fn channel_to(r: Row, j: usize) -> Channel
     r.to.get(j).copied().unwrap_or(Channel::EMPTY)
 }
 
+#[tactic(auto, using(crate::proofs::Rows::putting), unfolding(crate::specs::Posting::with_channel))]
 fn with_channel(r: Row, j: usize, c: Channel) -> Row
     ensures { result ≡ with_channel r j c }
 {
@@ -264,6 +265,7 @@ fn post_cast(s: Posted, c: Cast) -> Posted
     p
 }
 
+#[tactic(auto, using(crate::proofs::Posting::posting))]
 fn post_proceeds(s: Posted, peer: u8, m: u8) -> Posted
     ensures { result ≡ posts s (proceeds_to m peer) }
 {
@@ -276,6 +278,7 @@ fn post_proceeds(s: Posted, peer: u8, m: u8) -> Posted
 }
 
 // All that one event sends, in its order.
+#[tactic(auto, using(crate::proofs::Posting::posting), unfolding(crate::specs::Posting::posted_all, messages::specs::Sends::messages_of))]
 pub fn post_all(r: Row, s: Sends) -> Posted
     ensures { result ≡ posted_all r s }
 {
