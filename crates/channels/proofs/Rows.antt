@@ -77,3 +77,6 @@ length-posts s (m ∷ ms) = length-posts (post s m) ms ∙ length-post s m
 pub length-posted : (r : Row) (sends : Sends) → length (posted_all r sends).row.to ≡ length r.to
 unfolding posted_all
 length-posted r sends = length-posts (posted true r) (messages_of sends)
+
+-- where a channel is put
+pub ruleset putting = (put-past)

@@ -6,12 +6,12 @@ use Rattle.channels.proofs.row_ok.Goals as goal
 
 pub loop-j-init : goal.loop-j-init
 unfolding all_below
-loop-j-init c = (omega arith, refl)
+loop-j-init c = refl
 
 pub loop-j-preserved : goal.loop-j-preserved
 unfolding row_place_ok leads
-loop-j-preserved c = (omega arith, simp (all-next, c.both-ok.ensures, c.place_ok-e.ensures, c.both-used.ensures, c.both.ensures, c.wide-end.ensures.0, c.loop-j.invariant.1))
+loop-j-preserved c = simp (all-next, c.both-ok.ensures, c.place_ok.ensures, c.both-used.ensures, c.both.ensures, c.from-end.ensures, c.loop-j.invariant)
 
 pub returns : goal.returns
 unfolding row_ok
-returns c = let e : c.loop-j.j ≡ 7 = omega arith in simp (c.loop-j.invariant.1, e)
+returns c = let e : c.loop-j.j ≡ 7 = omega arith in simp (c.loop-j.invariant, e)
