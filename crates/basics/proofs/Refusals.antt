@@ -147,13 +147,21 @@ unless-case P ts x f none some = go (met ts) (code-met ts)
 pub unless-passed {ℓ} : {A : Type ℓ} (ts : List Trial) (x : A) (f : Refusal → A) → first_of ts ≡ 0 → unless (met ts) x f ≡ x
 unless-passed ts x f z = unless-case (λ a. a ≡ x) ts x f (λ _. refl) (λ r e. absurd (number-some r (sym e ∙ z)))
 
-pub unless-ok {ℓ} : {A : Type ℓ} {m : Result Unit Refusal} (x : A) (f : Refusal → A) → m ≡ Ok tt → unless m x f ≡ x
+pub unless-ok {ℓ} : {A : Type ℓ} {B : Type 0} {m : Result B Refusal} {b : B} (x : A) (f : Refusal → A) → m ≡ Ok b → unless m x f ≡ x
 unfolding unless
 unless-ok x f h = rw h
 
-pub unless-err {ℓ} : {A : Type ℓ} {m : Result Unit Refusal} {r : Refusal} (x : A) (f : Refusal → A) → m ≡ Err r → unless m x f ≡ f r
+pub unless-err {ℓ} : {A : Type ℓ} {B : Type 0} {m : Result B Refusal} {r : Refusal} (x : A) (f : Refusal → A) → m ≡ Err r → unless m x f ≡ f r
 unfolding unless
 unless-err x f h = rw h
+
+-- what holds of what comes next, and of what each refusal makes, holds of what comes of an answer
+pub answer-case {ℓ κ} :
+    {A : Type ℓ} {B : Type 0} (P : A → Type κ) (m : Result B Refusal) (x : A) (f : Refusal → A) → ((b : B) → m ≡ Ok b → P x) →
+    ((r : Refusal) → m ≡ Err r → P (f r)) → P (unless m x f)
+unfolding unless
+answer-case P (Ok b) x f ok err = ok b refl
+answer-case P (Err r) x f ok err = err r refl
 
 -- ---- one trial after the other
 

@@ -1,13 +1,13 @@
 -- The events at one panel, and which refusals each meets, in the order in which they are tried.
 -- Assumes nothing.
 use Rattle.std.specs.Prelude.{ℕ, ◌+◌, ◌-◌, ◌%◌}
-use mathlib.Core.{Bool.{Bool, true, false, not}, List.{List, [], ◌∷◌, ◌++◌}}
+use mathlib.Core.{Bool.{Bool, true, not}, List.{List, [], ◌∷◌, ◌++◌}}
 use Rattle.std.specs.Prelude.{leb, ltb, eqb}
 use Rattle.basics.specs.{Below.one_if, Choice.{ite, both}, Refusal.{Trial, refuse, first_of}}
 use Rattle.basics.specs.declared.refused.Refusal.TheVariants.{NotInForm, AreaTooShort, NoSuchPanel, NotTheWriter, Unfinished, UsedUp, StrayWrite, StrayProceed, LineFull}
 use Rattle.tables.specs.Places.{w_at, r_at, hold_at, line_at}
-use Rattle.form.specs.{Form.{in_form, is_panel, at_writer}, Setting.{own_w, own_r}, declared.Operation.Operation}
-use Rattle.form.specs.declared.{Operation.TheVariants.{Idle, Writing, FirstWait, SecondWait}, Tables.Tables}
+use Rattle.form.specs.{Form.{in_form, is_panel, at_writer, idle}, Setting.{own_w, own_r}, declared.Operation.Operation}
+use Rattle.form.specs.declared.Tables.{Tables}
 
 pub data Event : Type 0 where
   write : ℕ → Event
@@ -22,11 +22,8 @@ pub data Event : Type 0 where
 unfoldable pub is_peer : Tables → ℕ → Bool
 is_peer p j = both (is_panel p.n j) (not (eqb j p.number))
 
-unfoldable pub is_idle : Operation → Bool
-is_idle Idle = true
-is_idle Writing = false
-is_idle FirstWait = false
-is_idle (SecondWait sn) = false
+abbrev pub is_idle : Operation → Bool
+is_idle o = idle o
 
 -- the bit is (w[j]+1) mod 2 (line 11)
 unfoldable pub right_bit : Tables → ℕ → Bool → Bool

@@ -9,19 +9,8 @@ ghost use Rattle.basics.specs.Refusal.{met};
 ghost use Rattle.form.specs.Asked.{Sized};
 
 use basics::{Refusal, both, choose, one_if, wide};
-use form::{Operation, Tables};
+use form::Tables;
 use tables::WriteNo;
-
-fn is_idle(o: Operation) -> bool
-    ensures { result ≡ is_idle o }
-{
-    match o {
-        Operation::Idle => true,
-        Operation::Writing => false,
-        Operation::FirstWait => false,
-        Operation::SecondWait(_) => false,
-    }
-}
 
 // 2 and 3
 #[tactic(auto, using(basics::proofs::Refusals::in_turn), unfolding(crate::specs::Refusals::first_trials))]
@@ -43,7 +32,7 @@ pub fn refused_write(p: Tables, room: usize) -> Result<(), Refusal>
 {
     refused_first(p, room)?;
     Refusal::NotTheWriter.when(p.number != p.writer)?;
-    Refusal::Unfinished.when(!is_idle(p.operation))?;
+    Refusal::Unfinished.when(!p.operation.is_idle())?;
     let i = wide(p.number) - 1;
     Refusal::UsedUp.when(WRITES <= p.w[i].0)
 }
@@ -53,7 +42,7 @@ pub fn refused_read(p: Tables, room: usize) -> Result<(), Refusal>
     ensures { result ≡ met (read_trials p room) }
 {
     refused_first(p, room)?;
-    Refusal::Unfinished.when(!is_idle(p.operation))?;
+    Refusal::Unfinished.when(!p.operation.is_idle())?;
     let i = wide(p.number) - 1;
     Refusal::UsedUp.when(READS <= p.r[i].0)
 }
