@@ -235,6 +235,10 @@ module _ (s : List ℕ) (at : ℕ) where
   pub accepted-used : (t : Taken) → reading s at ≡ Ok t → t.used ≡ size_of records (get_or s at 0)
   accepted-used t e = ap (λ (x : Taken). x.used) (accepted-as t e)
 
+  -- and lies within the schedule
+  pub accepted-within : (t : Taken) → reading s at ≡ Ok t → at + t.used ≤ length s
+  accepted-within t e = let w = accepted-from t e seen in omega (arith, w.body-there, accepted-used t e)
+
   -- and its kind is the byte that stands there
   pub kind-shown : (t : Taken) → reading s at ≡ Ok t → t.«record».kind ≡ get_or s at 0
   unfolding record_of

@@ -3,9 +3,9 @@
 -- bytes begin another's (`written-prefix-free`), and what is accepted or refused exactly when. All by the laws of items.
 -- Assumes nothing.
 use mathlib.Core.{Bool.{Bool, true, false}, List.{List, [], ◌∷◌, ◌++◌}, Logic.{◌⊎◌, inl, inr, ◌↔◌}, Path.{◌≡◌, refl, sym, ap, ap₂, subst₂, ◌∙◌}}
-use Prim.Native.Nat.{ℕ, ◌^◌, ◌≤◌, ◌<◌}
+use Prim.Native.Nat.{ℕ, ◌+◌, ◌^◌, ◌≤◌, ◌<◌}
 use native.Mathlib.Omega.{arith}
-use lib.{Dec.{eqb, lit<}, ListN.{length, get_or, take}}
+use lib.{Dec.{eqb, lit<}, ListN.{length, get_or, take, drop, length-drop}}
 use borrow.Author.Tests.{lt-ltb, ltb-true, eqb-true}
 use Rattle.std.specs.Prelude.{Result, Ok, Err}
 use Rattle.basics.{proofs.{Choices.{both_true, both_left, both_right}, KindBytes.kind-back}, specs.{Choice.ite, Kinds.{byte_of, kind_of}}}
@@ -133,6 +133,10 @@ written_read s m h e =
 
 -- ---- exactly when
 
+abbrev used_in : Result Taken Refusal → ℕ
+used_in (Ok m) = m.used
+used_in (Err r) = 0
+
 module _ (s : List ℕ) where
   unknown-to : Unknown wire s 0 → reading s ≡ Err UnknownKind
   unfolding reading message_of refusal_of ite
@@ -195,3 +199,14 @@ module _ (s : List ℕ) where
 
   pub refused-only : (r : Refusal) → reading s ≡ Err r → (r ≡ UnknownKind) ⊎ (r ≡ CutShort)
   refused-only r e = only-from r e seen
+
+  -- an accepted message uses as many bytes as its kind has
+  pub accepted-used : (m : Taken) → reading s ≡ Ok m → m.used ≡ size_of wire (get_or s 0 0)
+  unfolding whole-to
+  accepted-used m e = let z = (whole-to (accepted-from m e seen)).1 in ap (λ (r : Result Taken Refusal). used_in r) (sym e ∙ z)
+
+-- and lies within the bytes, wherever it stands
+pub accepted-within : (s : List ℕ) (at : ℕ) (m : Taken) → reading (drop at s) ≡ Ok m → at + m.used ≤ length s
+accepted-within s at m e =
+    let w = (accepted-iff (drop at s)).0 (m, e) in
+    omega (arith, w.byte-there, w.body-there, accepted-used (drop at s) m e, length-drop at s)
