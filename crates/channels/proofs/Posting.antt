@@ -7,7 +7,7 @@ use borrow.Author.Tests.{leb-true, le-leb, lt-leb}
 use Rattle.basics.proofs.Choices.{clash, ite-true, ite-false, ite-case, both_left, both_right, both_true, both-false-left, both-false-right}
 use Rattle.basics.specs.Choice.{ite, both}
 use Rattle.std.specs.Prelude.{None, Some}
-use Rattle.messages.{proofs.Messages.{proceeds-none, proceeds-next}, specs.Sends.Message}
+use Rattle.messages.{proofs.Messages.{below_none, below-marked, below-unmarked, proceeds-none, proceeds-next}, specs.Sends.Message}
 use Rattle.channels.specs.{Channels.{channel_at, room, joined}, Posting.{posted, fits_in, post, posts, with_channel}}
 use Rattle.channels.specs.declared.{Posted.Posted, Row.Row}
 
@@ -109,7 +109,10 @@ posts-append s [] ns = refl
 posts-append s (m ∷ ms) ns = posts-append (post s m) ms ns
 
 -- how a loop over messages goes on
-pub ruleset posting = (posts-none, posts-one, posts-append, proceeds-none, proceeds-next)
+pub ruleset posting = (posts-none, posts-one, posts-append, below_none, below-marked, below-unmarked, proceeds-none, proceeds-next)
+
+-- and where one message is put
+pub ruleset one = (ite-true, ite-false, chosen, none-chosen)
 
 pub posts-stuck : (s : Posted) (ms : List Message) → s.fits ≡ false → posts s ms ≡ s
 unfolding posts

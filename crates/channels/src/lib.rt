@@ -175,6 +175,7 @@ fn place_ok(used: bool, c: Channel) -> bool
     choose(used, ok, empty)
 }
 
+#[tactic(auto, using(crate::proofs::Rows::testing), unfolding(crate::specs::Channels::row_ok, crate::specs::Channels::row_place_ok, crate::specs::Channels::leads))]
 pub fn row_ok(r: Row, n: u8, i: usize) -> bool
     ensures { result ≡ row_ok r n i }
 {
@@ -238,6 +239,7 @@ fn put(row: Row, to: u8, kind: u8, v: u32) -> Option<Row>
     Some(with_channel(row, at, joined(c, kind, v)))
 }
 
+#[tactic(auto, using(crate::proofs::Posting::one), unfolding(crate::specs::Posting::post))]
 fn post_one(s: Posted, to: u8, kind: u8, v: u32) -> Posted
     ensures { result ≡ post s (record { to = to; kind = kind; value = v }) }
 {
@@ -253,6 +255,7 @@ fn post_one(s: Posted, to: u8, kind: u8, v: u32) -> Posted
     }
 }
 
+#[tactic(auto, using(crate::proofs::Posting::posting), unfolding(messages::specs::Sends::cast_of))]
 fn post_cast(s: Posted, c: Cast) -> Posted
     ensures { result ≡ posts s (cast_of c) }
 {
