@@ -163,6 +163,14 @@ unfolding unless
 answer-case P (Ok b) x f ok err = ok b refl
 answer-case P (Err r) x f ok err = err r refl
 
+-- two outcomes of one answer: what holds of both where nothing is refused, and of both that a refusal makes, holds of them
+pub unless-two {ℓ κ μ} :
+    {A : Type ℓ} {C : Type κ} {B : Type 0} (R : A → C → Type μ) (m : Result B Refusal) (x : A) (u : C) (f : Refusal → A) (g : Refusal → C) →
+    ((b : B) → m ≡ Ok b → R x u) → ((r : Refusal) → m ≡ Err r → R (f r) (g r)) → R (unless m x f) (unless m u g)
+unfolding unless
+unless-two R (Ok b) x u f g ok err = ok b refl
+unless-two R (Err r) x u f g ok err = err r refl
+
 -- ---- one trial after the other
 
 pub met-cons : (t : Trial) (us : List Trial) → met (t ∷ us) ≡ and_then (met (t ∷ [])) (met us)

@@ -3,11 +3,12 @@
 use mathlib.Core.{Bool.{Bool, true, false}, List.List, Logic.◌≢◌, Path.{◌≡◌, refl, sym, ap, ap₂, subst, ◌∙◌}}
 use Prim.Native.Nat.{ℕ, ◌-◌, ◌≤◌}
 use native.Mathlib.Omega.{arith}
-use lib.{Dec.eqb, ListN.{get_or, set}, Seq.{set-get_or, get_or-set_other}}
-use borrow.Author.Tests.{eqb-true, le-leb}
-use Rattle.basics.{proofs.Choices.{ite-true, ite-false, ite-two}, specs.Choice.ite, specs.Refusal.{Trial, first_of}}
+use lib.{ListN.{get_or, set}, Seq.{set-get_or, get_or-set_other}}
+use borrow.Author.Tests.{le-leb}
+use Rattle.basics.{proofs.Choices.{ite-true, ite-two}, proofs.Refusals.{none-met, unless-two}, specs.Choice.ite, specs.Refusal.{Trial, first_of, met, unless}}
+use Rattle.basics.specs.declared.refused.Refusal.{Refusal, TheVariants.{NoSuchPanel, ChannelFull}}
 use Rattle.refusals.specs.Refusals.Event.{read}
-use Rattle.events.specs.declared.Answer.TheVariants.{Nothing}
+use Rattle.std.specs.Prelude.{Ok, None}
 use Rattle.panel.specs.{Calls.after, declared.Next.Next, declared.Panel.Panel}
 use Rattle.channels.specs.{Channels.{no_row, value_in}, Posting.{posted_all, taken}, declared.Row.Row}
 use Rattle.house.{proofs.NetForms.{form-view, writer-high}, specs.NetForm.net_form}
@@ -16,7 +17,7 @@ use Rattle.steps.{proofs.Passing.{pair-iff, places-apart, may_read}, specs.Steps
 use Rattle.steps.specs.declared.Stepped.{Stepped}
 use Rattle.steps.specs.Steps as steps
 use Rattle.parts.specs.Acting.{place_within, actor_of, sender_of, with_from, with_taken, refused_by, tried, write_trials, read_trials, deliver_trials, lose_trials, settled, written, begun, delivered, lost, moved}
-use Rattle.parts.specs.{Steps.{parts_at, put_back, moved_in, step_in}, declared.Moved.Moved, declared.Step.Step}
+use Rattle.parts.specs.{Steps.{parts_at, put_back, moved_in, step_in}, declared.Moved.Moved, declared.Step.Step, declared.Step.TheVariants.{Write, Read, Deliver, Lose, Rest}}
 
 -- what a step on the parts at places i and j comes to, put back
 abbrev pub back : Network → ℕ → ℕ → Moved → Stepped
@@ -34,8 +35,8 @@ unmoved s i j =
     (set-get_or s.panels j nobody)
     (ap (λ (rs : List Row). set rs j (row_at s j)) (set-get_or s.rows i no_row) ∙ set-get_or s.rows j no_row)
 
-refused-back : (s : Network) (i j k : ℕ) → back s i j (refused_by (parts_at s i j) k) ≡ steps.refused_by s k
-refused-back s i j k = ap (λ (x : Network). steps.refused_by x k) (unmoved s i j)
+refused-back : (s : Network) (i j : ℕ) (r : Refusal) → back s i j (refused_by (parts_at s i j) r) ≡ steps.refused_by s r
+refused-back s i j r = ap (λ (x : Network). steps.refused_by x r) (unmoved s i j)
 
 -- ---- trials
 
@@ -44,7 +45,7 @@ tried-back :
     (ts : List Trial) (s : Network) (i j : ℕ) (a : Moved) (b : Stepped) → (first_of ts ≡ 0 → back s i j a ≡ b) →
     back s i j (tried ts (parts_at s i j) a) ≡ steps.tried ts s b
 unfolding tried steps.tried
-tried-back ts s i j a b same = ite-two (Backed s i j) _ _ _ _ _ (λ z. same (eqb-true _ _ z)) (λ _. refused-back s i j _)
+tried-back ts s i j a b same = unless-two (Backed s i j) (met ts) _ _ _ _ (λ _ e. same (none-met ts (sym e))) (λ r _. refused-back s i j r)
 
 -- ---- the panel's event: r are the channels that leave place i afterwards
 
@@ -59,14 +60,14 @@ module _ (s : Network) (i j : ℕ) (r : Row) (q : Next) (own : row_at (with_row 
 
   -- if all that it sends finds room
   abbrev done-or-full : Row → Stepped
-  done-or-full o = ite (posted_all o q.sends).fits (done o) (steps.refused_by s 14)
+  done-or-full o = ite (posted_all o q.sends).fits (done o) (steps.refused_by s ChannelFull)
 
   pub settled_back : Backed s i j (settled (parts_at s i j) (with_from (parts_at s i j) r) q) (steps.settled s (with_row s i r) j q)
   unfolding settled steps.settled
   settled_back =
-      ite-two (Backed s i j) _ _ _ _ _
-      (λ _. ite-two (Backed s i j) (posted_all (row_at s j) q.sends).fits _ _ _ _ (λ _. refl) (λ _. refused-back s i j 14) ∙ ap done-or-full (sym own))
-      (λ _. refused-back s i j _)
+      unless-two (Backed s i j) q.answer _ _ _ _
+      (λ _ _. ite-two (Backed s i j) (posted_all (row_at s j) q.sends).fits _ _ _ _ (λ _. refl) (λ _. refused-back s i j ChannelFull) ∙ ap done-or-full (sym own))
+      (λ r _. refused-back s i j r)
 
 -- a start takes nothing out of a channel
 started-back : (s : Network) (i j : ℕ) (q : Next) → back s i j (settled (parts_at s i j) (parts_at s i j) q) ≡ steps.settled s s j q
@@ -107,7 +108,7 @@ module _ (s : Network) (f : net_form s ≡ true) where
   unfolding lost lose_in lose_trials steps.lose_trials
   lose-back i o p =
       tried-back (steps.lose_trials s i) s o p _ _
-      (λ _. ap (λ (x : Network). record { network = record { panels = x.panels; rows = x.rows; down = set s.down (i - 1) true }; answer = Nothing }) (unmoved s o p))
+      (λ _. ap (λ (x : Network). record { network = record { panels = x.panels; rows = x.rows; down = set s.down (i - 1) true }; answer = Ok None }) (unmoved s o p))
 
   -- the message taken out, the panel's own channels are as they were
   delivered-back :
@@ -124,8 +125,8 @@ module _ (s : Network) (f : net_form s ≡ true) where
     At o p = back s o p (delivered (parts_at s o p) k i j) ≡ deliver_in s k i j
 
     nobody-there : (o p : ℕ) → is_pair (n_of s) i j ≡ false → At o p
-    unfolding delivered deliver_in deliver_trials steps.deliver_trials tried steps.tried first_of ite
-    nobody-there o p h = simp h (refused-back s o p 4)
+    unfolding delivered deliver_in deliver_trials steps.deliver_trials tried steps.tried met unless ite
+    nobody-there o p h = simp h (refused-back s o p NoSuchPanel)
 
     there : is_pair (n_of s) i j ≡ true → At (i - 1) (j - 1)
     unfolding delivered deliver_in deliver_trials steps.deliver_trials
@@ -143,36 +144,13 @@ module _ (s : Network) (f : net_form s ≡ true) where
 
   -- ---- a step by what it is
 
-  module _ (m : Step) where
-    abbrev from : ℕ
-    from = sender_of m (writer_of s)
-
-    abbrev at : ℕ
-    at = actor_of m (writer_of s)
-
-    abbrev Here : Moved → Stepped → Type 0
-    Here = Backed s from at
-
-    from_is : eqb m.what 3 ≡ true → from ≡ place_within m.from
-    unfolding sender_of
-    from_is c = ite-true _ _ c
-
-    writer-is : eqb m.what 1 ≡ true → at ≡ place_within (writer_of s)
-    unfolding actor_of
-    writer-is a = ite-true _ _ a
-
-    at-is : eqb m.what 1 ≡ false → at ≡ place_within m.at
-    unfolding actor_of
-    at-is a = ite-false _ _ a
-
-    pub moved_back : back s from at (moved_in s m) ≡ step_in s m
-    unfolding moved step_in
-    moved_back =
-        ite-two Here (eqb m.what 1) _ _ _ _ (λ a. write-back m.value from (writer-is a))
-        (λ a. ite-two Here (eqb m.what 2) _ _ _ _ (λ _. read_back m.at from (at-is a))
-        (λ _. ite-two Here (eqb m.what 3) _ _ _ _ (λ c. deliver-back m.kind m.from m.at (from_is c) (at-is a))
-        (λ _. ite-two Here (eqb m.what 4) _ _ _ _ (λ _. lose-back m.at from at)
-        (λ _. ap (λ (x : Network). record { network = x; answer = Nothing }) (unmoved s from at)))))
+  pub moved_back : (m : Step) → back s (sender_of m (writer_of s)) (actor_of m (writer_of s)) (moved_in s m) ≡ step_in s m
+  unfolding moved step_in sender_of actor_of
+  moved_back (Write v) = write-back v _ refl
+  moved_back (Read i) = read_back i _ refl
+  moved_back (Deliver k i j) = deliver-back k i j refl refl
+  moved_back (Lose i) = lose-back i _ _
+  moved_back Rest = ap (λ (x : Network). record { network = x; answer = Ok None }) (unmoved s _ _)
 
 -- with the places and what is made of the parts as the code holds them
 pub step_back :
@@ -182,6 +160,6 @@ step_back s f m {o} {p} from at e =
     ap (back s o p) e ∙ ap₂ (λ (i j : ℕ). back s i j (moved (parts_at s i j) m)) from at ∙ moved_back s f m
 
 -- no step leaves any network as it is
-pub still_back : (s : Network) (m : Step) → m.what ≡ 0 → back s (sender_of m (writer_of s)) (actor_of m (writer_of s)) (moved_in s m) ≡ record { network = s; answer = Nothing }
-unfolding moved ite
-still_back s m z = simp z (ap (λ (x : Network). record { network = x; answer = Nothing }) (unmoved s _ _))
+pub still_back : (s : Network) → back s (sender_of Rest (writer_of s)) (actor_of Rest (writer_of s)) (moved_in s Rest) ≡ record { network = s; answer = Ok None }
+unfolding moved
+still_back s = ap (λ (x : Network). record { network = x; answer = Ok None }) (unmoved s _ _)

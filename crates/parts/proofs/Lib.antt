@@ -1,3 +1,3 @@
-pub mod Trials
 pub mod Back
+pub mod Senders
 pub mod Outcomes

@@ -1,28 +1,16 @@
 -- The network's steps on the parts that they touch: what each is refused for in the order in which it is tried, and the parts afterwards.
 -- That these are the network's own steps is shown in proofs/Back.
 -- Assumes nothing.
-use Rattle.std.specs.Prelude.{ℕ, ◌+◌, ◌-◌}
-use mathlib.Core.{Bool.{Bool, true, false, not}, List.{List, [], ◌∷◌}}
-use lib.{Dec.{leb, eqb}, ListN.{get_or, set}}
-use Rattle.basics.specs.{Choice.ite, Refusal.{Trial, refuse, first_of}}
+use Rattle.std.specs.Prelude.{ℕ, ◌+◌, ◌-◌, Bool, true, false, not, List, [], ◌∷◌, leb, get_or, set, Result, Ok, Err, None}
+use Rattle.basics.specs.{Choice.ite, Refusal.{Trial, refuse, met, unless}}
+use Rattle.basics.specs.declared.refused.Refusal.{Refusal, TheVariants.{NoSuchPanel, PanelDown, NothingInFlight, TooManyDown, ChannelFull}}
 use Rattle.form.specs.Form.{is_panel}
 use Rattle.refusals.specs.Refusals.Event.{write, read}
-use Rattle.events.specs.declared.Answer.TheVariants.{Refused, Nothing}
 use Rattle.panel.specs.{Calls.after, declared.Next.Next, declared.Panel.Panel}
-use Rattle.promise.specs.View.{code_of}
 use Rattle.channels.specs.{Channels.{has, value_in, channel_at}, Posting.{posted_all, taken}, declared.Posted.Posted, declared.Row.Row}
 use Rattle.house.specs.NetForm.{may_be_down, downs_in}
 use Rattle.steps.specs.Steps.{is_pair, comes}
-use Rattle.parts.specs.declared.{Moved.Moved, Parts.Parts, Step.Step}
-
--- ---- steps
-
-abbrev pub delivery_step : ℕ → ℕ → ℕ → Step
-delivery_step k i j = record { what = 3; kind = k; from = i; at = j; value = 0 }
-
--- a start of a write or a read, or power loss
-abbrev pub step_at : ℕ → ℕ → ℕ → Step
-step_at what i v = record { what = what; kind = 0; from = 0; at = i; value = v }
+use Rattle.parts.specs.declared.{Done.Done, Moved.Moved, Parts.Parts, Step.Step, Step.TheVariants.{Write, Read, Deliver, Lose, Rest}}
 
 -- ---- places
 
@@ -30,11 +18,21 @@ step_at what i v = record { what = what; kind = 0; from = 0; at = i; value = v }
 unfoldable pub place_within : ℕ → ℕ
 place_within i = ite (leb i 7) (i - 1) 0
 
+-- of the panel that acts
 unfoldable pub actor_of : Step → ℕ → ℕ
-actor_of m writer = ite (eqb m.what 1) (place_within writer) (place_within m.at)
+actor_of (Write v) writer = place_within writer
+actor_of (Read i) writer = place_within i
+actor_of (Deliver k i j) writer = place_within j
+actor_of (Lose i) writer = place_within i
+actor_of Rest writer = 0
 
+-- of the sender in a delivery, and else of the panel that acts
 unfoldable pub sender_of : Step → ℕ → ℕ
-sender_of m writer = ite (eqb m.what 3) (place_within m.from) (actor_of m writer)
+sender_of (Write v) writer = actor_of (Write v) writer
+sender_of (Read i) writer = actor_of (Read i) writer
+sender_of (Deliver k i j) writer = place_within i
+sender_of (Lose i) writer = actor_of (Lose i) writer
+sender_of Rest writer = 0
 
 -- ---- the parts with one thing changed
 
@@ -53,38 +51,43 @@ with_down x i =
 
 -- ---- what is tried
 
-abbrev pub refused_by : Parts → ℕ → Moved
-refused_by x k = record { answer = Refused k; parts = x }
+abbrev pub refused_by : Parts → Refusal → Moved
+refused_by x r = record { answer = Err r; parts = x }
+
+-- what a step comes to, refused or not
+abbrev pub moved_by : Parts → Result Done Refusal → Moved
+moved_by x (Ok d) = record { answer = Ok d.finished; parts = d.parts }
+moved_by x (Err r) = refused_by x r
 
 unfoldable pub tried : List Trial → Parts → Moved → Moved
-tried ts x a = ite (eqb (first_of ts) 0) a (refused_by x (first_of ts))
+tried ts x a = unless (met ts) a (refused_by x)
 
 abbrev pub is_down : Parts → ℕ → Bool
 is_down x i = get_or x.down (i - 1) false
 
 unfoldable pub write_trials : Parts → List Trial
-write_trials x = refuse 5 (is_down x x.writer) ∷ []
+write_trials x = refuse PanelDown (is_down x x.writer) ∷ []
 
 unfoldable pub read_trials : Parts → ℕ → List Trial
-read_trials x i = refuse 4 (not (is_panel x.n i)) ∷ refuse 5 (is_down x i) ∷ []
+read_trials x i = refuse NoSuchPanel (not (is_panel x.n i)) ∷ refuse PanelDown (is_down x i) ∷ []
 
 unfoldable pub deliver_trials : Parts → ℕ → ℕ → ℕ → List Trial
 deliver_trials x k i j =
-    refuse 4 (not (is_pair x.n i j)) ∷ refuse 5 (is_down x j) ∷ refuse 9 (not (has (channel_at x.from (j - 1)) k)) ∷ []
+    refuse NoSuchPanel (not (is_pair x.n i j)) ∷ refuse PanelDown (is_down x j) ∷ refuse NothingInFlight (not (has (channel_at x.from (j - 1)) k)) ∷ []
 
 unfoldable pub lose_trials : Parts → ℕ → List Trial
 lose_trials x i =
-    refuse 4 (not (is_panel x.n i)) ∷ refuse 5 (is_down x i) ∷ refuse 10 (not (may_be_down x.t (downs_in x.down + 1))) ∷ []
+    refuse NoSuchPanel (not (is_panel x.n i)) ∷ refuse PanelDown (is_down x i) ∷ refuse TooManyDown (not (may_be_down x.t (downs_in x.down + 1))) ∷ []
 
 -- ---- the steps
 
 -- the panel has come to q, and what it sends goes into its channels in y; x are the parts before the step
 unfoldable pub settled : Parts → Parts → Next → Moved
 settled x y q =
-    ite (eqb (code_of q.answer) 0)
+    unless q.answer
     (let a : Posted = posted_all y.own q.sends in
-    ite a.fits (record { answer = q.answer; parts = with_actor y q.panel a.row }) (refused_by x 14))
-    (refused_by x (code_of q.answer))
+    ite a.fits (record { answer = q.answer; parts = with_actor y q.panel a.row }) (refused_by x ChannelFull))
+    (refused_by x)
 
 unfoldable pub written : Parts → ℕ → Moved
 written x v = tried (write_trials x) x (settled x x (after x.panel (write v)))
@@ -98,11 +101,11 @@ delivered x k i j =
     (settled x (with_taken x k j) (after x.panel (comes k i (value_in (channel_at x.from (j - 1)) k))))
 
 unfoldable pub lost : Parts → ℕ → Moved
-lost x i = tried (lose_trials x i) x (record { answer = Nothing; parts = with_down x i })
+lost x i = tried (lose_trials x i) x (record { answer = Ok None; parts = with_down x i })
 
 unfoldable pub moved : Parts → Step → Moved
-moved x m =
-    ite (eqb m.what 1) (written x m.value)
-    (ite (eqb m.what 2) (begun x m.at)
-    (ite (eqb m.what 3) (delivered x m.kind m.from m.at)
-    (ite (eqb m.what 4) (lost x m.at) (record { answer = Nothing; parts = x }))))
+moved x (Write v) = written x v
+moved x (Read i) = begun x i
+moved x (Deliver k i j) = delivered x k i j
+moved x (Lose i) = lost x i
+moved x Rest = record { answer = Ok None; parts = x }

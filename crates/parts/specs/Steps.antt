@@ -1,12 +1,9 @@
 -- A network's parts, taken out and put back, and its steps by what they are.
 -- Assumes nothing.
-use Rattle.std.specs.Prelude.{ℕ}
-use lib.{Dec.eqb, ListN.set}
-use Rattle.basics.specs.Choice.{ite}
-use Rattle.events.specs.declared.Answer.TheVariants.{Nothing}
+use Rattle.std.specs.Prelude.{ℕ, set, Ok, None}
 use Rattle.house.specs.{Places.{panel_at, row_at, n_of, t_of, writer_of}, declared.Network.Network}
 use Rattle.steps.specs.{Steps.{write_in, read_in, deliver_in, lose_in}, declared.Stepped.Stepped}
-use Rattle.parts.specs.{Acting.{actor_of, sender_of, moved}, declared.Moved.Moved, declared.Parts.Parts, declared.Step.Step}
+use Rattle.parts.specs.{Acting.{actor_of, sender_of, moved}, declared.Moved.Moved, declared.Parts.Parts, declared.Step.Step, declared.Step.TheVariants.{Write, Read, Deliver, Lose, Rest}}
 
 -- the parts of s for a step from place i at place j
 abbrev pub parts_at : Network → ℕ → ℕ → Parts
@@ -25,8 +22,8 @@ put_back_for s m x = put_back s (sender_of m (writer_of s)) (actor_of m (writer_
 
 -- the step of a network in form
 unfoldable pub step_in : Network → Step → Stepped
-step_in s m =
-    ite (eqb m.what 1) (write_in s m.value)
-    (ite (eqb m.what 2) (read_in s m.at)
-    (ite (eqb m.what 3) (deliver_in s m.kind m.from m.at)
-    (ite (eqb m.what 4) (lose_in s m.at) (record { network = s; answer = Nothing }))))
+step_in s (Write v) = write_in s v
+step_in s (Read i) = read_in s i
+step_in s (Deliver k i j) = deliver_in s k i j
+step_in s (Lose i) = lose_in s i
+step_in s Rest = record { network = s; answer = Ok None }

@@ -9,22 +9,22 @@ ghost use Rattle.panel.specs.Calls.{after};
 ghost use Rattle.promise.specs.View.{code_of};
 ghost use Rattle.house.specs.NetForm.{may_be_down, downs_in};
 ghost use Rattle.steps.specs.Steps.{is_pair, comes};
-ghost use Rattle.parts.specs.Acting.{delivery_step, step_at, place_within, actor_of, sender_of, refused_by, with_from, with_down, settled, written, begun, delivered, lost, moved};
+ghost use Rattle.parts.specs.Acting.{place_within, actor_of, sender_of, with_from, with_down, moved_by, settled, written, begun, delivered, lost, moved};
 
-use basics::{both, wide};
+use basics::{Kind, Refusal, both};
 use channels::Row;
-use events::Answer;
+use events::{Answer, Finished};
 use panel::{Next, Panel};
 
-// What a step is: 1 a start of a write of `value`, 2 of a read by panel `at`, 3 a delivery of a message of kind `kind` from panel `from` to
-// panel `at`, 4 power loss of panel `at`; any other number is no step.
-#[derive(Clone, Copy)]
-pub struct Step {
-    pub what: u8,
-    pub kind: u8,
-    pub from: u8,
-    pub at: u8,
-    pub value: u32,
+// A start of a write of a value, or of a read by a panel; a delivery of a message of a kind, by the numbers of its two panels; power loss
+// of a panel; or no step.
+#[derive(Clone, Copy, Debug, PartialEq, Eq)]
+pub enum Step {
+    Write(u32),
+    Read(u8),
+    Deliver { kind: u8, from: u8, to: u8 },
+    Lose(u8),
+    Rest,
 }
 
 // The network's n, t and writer, who is down, the panel that acts, the channels that leave the sender, and those that leave the panel.
@@ -39,38 +39,18 @@ pub struct Parts {
     pub own: Row,
 }
 
+// What a step that is not refused comes to.
+#[derive(Clone, Copy)]
+struct Done {
+    finished: Option<Finished>,
+    parts: Parts,
+}
+
 // The answer, and the parts afterwards.
 #[derive(Clone, Copy)]
 pub struct Moved {
     pub answer: Answer,
     pub parts: Parts,
-}
-
-// ---- steps
-
-pub fn delivery(kind: u8, i: u8, j: u8) -> Step
-    ensures { result ≡ delivery_step kind i j }
-{
-    Step {
-        what: 3,
-        kind,
-        from: i,
-        at: j,
-        value: 0,
-    }
-}
-
-// A start of a write or a read, or power loss.
-pub fn step_at(what: u8, i: u8, v: u32) -> Step
-    ensures { result ≡ step_at what i v }
-{
-    Step {
-        what,
-        kind: 0,
-        from: 0,
-        at: i,
-        value: v,
-    }
 }
 
 // ---- places
@@ -79,39 +59,54 @@ pub fn step_at(what: u8, i: u8, v: u32) -> Step
 fn place_of(i: u8) -> usize
     ensures { result ≡ i - 1 }
 {
-    if i == 0 { 0 } else { wide(i) - 1 }
+    usize::from(i).saturating_sub(1)
 }
 
 // A place that a network has, and that of panel i if it has one.
+#[tactic(auto, unfolding(crate::specs::Acting::place_within, basics::specs::Choice::ite))]
 fn place_within(i: u8) -> usize
-    ensures { (result ≡ place_within i) × (result < 7) }
+    ensures within { result ≡ place_within i }
+    ensures seven { result < 7 }
 {
     if i <= 7 { place_of(i) } else { 0 }
 }
 
 // The place of the panel that acts.
+#[tactic(auto, unfolding(crate::specs::Acting::actor_of))]
 pub fn actor(m: Step, writer: u8) -> usize
     ensures { (result ≡ actor_of m writer) × (result < 7) }
 {
-    if m.what == 1 {
-        return place_within(writer);
+    match m {
+        Step::Write(_) => place_within(writer),
+        Step::Read(i) | Step::Lose(i) => place_within(i),
+        Step::Deliver {
+            kind: _,
+            from: _,
+            to,
+        } => place_within(to),
+        Step::Rest => 0,
     }
-    place_within(m.at)
 }
 
 // The place of the sender in a delivery, and else of the panel that acts.
+#[tactic(auto, unfolding(crate::specs::Acting::sender_of))]
 pub fn sender(m: Step, writer: u8) -> usize
     ensures { (result ≡ sender_of m writer) × (result < 7) }
 {
-    if m.what == 3 {
-        return place_within(m.from);
+    match m {
+        Step::Deliver {
+            kind: _,
+            from,
+            to: _,
+        } => place_within(from),
+        Step::Write(_) | Step::Read(_) | Step::Lose(_) | Step::Rest => actor(m, writer),
     }
-    actor(m, writer)
 }
 
 // ---- what is tried
 
 // Two different panels.
+#[tactic(auto, unfolding(steps::specs::Steps::is_pair))]
 fn is_pair(n: u8, i: u8, j: u8) -> bool
     ensures { result ≡ is_pair n i j }
 {
@@ -121,8 +116,7 @@ fn is_pair(n: u8, i: u8, j: u8) -> bool
 fn is_down(down: [bool; 7], i: u8) -> bool
     ensures { result ≡ get_or down (i - 1) false }
 {
-    let at = place_of(i);
-    if at < 7 { down[at] } else { false }
+    down.get(place_of(i)).copied().unwrap_or(false)
 }
 
 // Whether one more panel may be down.
@@ -138,28 +132,19 @@ fn down_too(down: [bool; 7], i: u8) -> [bool; 7]
     ensures { result ≡ set down (i - 1) true }
 {
     let at = place_of(i);
-    let mut d = down;
+    let mut down = down;
     if at < 7 {
-        d[at] = true;
+        down[at] = true;
     }
-    d
+    down
 }
 
 fn with_down(x: Parts, i: u8) -> Parts
     ensures { result ≡ with_down x i }
 {
-    let down = x.down;
-    let panel = x.panel;
-    let from = x.from;
-    let own = x.own;
     Parts {
-        n: x.n,
-        t: x.t,
-        writer: x.writer,
-        down: down_too(down, i),
-        panel,
-        from,
-        own,
+        down: down_too(x.down, i),
+        ..x
     }
 }
 
@@ -169,155 +154,115 @@ pub fn code_of(a: Answer) -> u8
     ensures { result ≡ code_of a }
 {
     match a {
-        Answer::Refused(k) => k,
-        Answer::Nothing => 0,
-        Answer::Wrote(_) => 0,
-        Answer::Gave(_, _) => 0,
-    }
-}
-
-fn refused(x: Parts, k: u8) -> Moved
-    ensures { result ≡ refused_by x k }
-{
-    Moved {
-        answer: Answer::Refused(k),
-        parts: x,
+        Ok(_) => 0,
+        Err(refusal) => refusal.number(),
     }
 }
 
 // The panel has come to q, and what it sends goes into its channels; `from` are the sender's channels afterwards.
-fn settle(x: Parts, from: Row, q: Next) -> Moved
-    ensures { result ≡ settled x (with_from x from) q }
+#[tactic(auto, using(basics::proofs::Refusals::in_turn), unfolding(crate::specs::Acting::settled, basics::specs::Refusal::unless, basics::specs::Refusal::met, basics::specs::Choice::ite))]
+fn settle(x: Parts, from: Row, q: Next) -> Result<Done, Refusal>
+    ensures { moved_by x result ≡ settled x (with_from x from) q }
 {
-    let answer = q.answer;
-    let k = code_of(answer);
-    if k != 0 {
-        return refused(x, k);
-    }
-    let sends = q.sends;
-    let own = x.own;
-    let a = channels::post_all(own, sends);
-    if !a.fits {
-        return refused(x, 14);
-    }
-    let down = x.down;
-    let panel = q.panel;
-    let own = a.row;
-    Moved {
-        answer,
+    let finished = q.answer?;
+    let posted = channels::post_all(x.own, q.sends);
+    Refusal::ChannelFull.when(!posted.fits)?;
+    Ok(Done {
+        finished,
         parts: Parts {
-            n: x.n,
-            t: x.t,
-            writer: x.writer,
-            down,
-            panel,
+            panel: q.panel,
             from,
-            own,
+            own: posted.row,
+            ..x
         },
-    }
+    })
 }
 
-// A message of kind `kind` from panel j comes to p.
+// A message of a kind from panel j comes to p; any byte that is no kind counts as a PROCEED.
+#[tactic(auto, using(channels::proofs::Flying::kinds), unfolding(steps::specs::Steps::comes))]
 fn come(p: Panel, kind: u8, j: u8, v: u32) -> Next
     ensures { result ≡ after p (comes kind j v) }
 {
-    if kind == 0 {
-        return p.after_write_from(j, false, v);
+    match Kind::try_from(kind) {
+        Ok(Kind::Write0) => p.after_write_from(j, false, v),
+        Ok(Kind::Write1) => p.after_write_from(j, true, v),
+        Ok(Kind::Read) => p.after_read_from(j),
+        Ok(Kind::Proceed) | Err(_) => p.after_proceed_from(j),
     }
-    if kind == 1 {
-        return p.after_write_from(j, true, v);
-    }
-    if kind == 2 {
-        return p.after_read_from(j);
-    }
-    p.after_proceed_from(j)
 }
 
 // ---- the steps
 
-fn write(x: Parts, v: u32) -> Moved
-    ensures { result ≡ written x v }
+#[tactic(auto, using(basics::proofs::Refusals::in_turn), unfolding(crate::specs::Acting::written, crate::specs::Acting::write_trials, crate::specs::Acting::tried, basics::specs::Refusal::unless))]
+fn write(x: Parts, v: u32) -> Result<Done, Refusal>
+    ensures { moved_by x result ≡ written x v }
 {
-    let down = x.down;
-    if is_down(down, x.writer) {
-        return refused(x, 5);
-    }
-    let p = x.panel;
-    let row = x.from;
-    settle(x, row, p.after_write(v))
+    Refusal::PanelDown.when(is_down(x.down, x.writer))?;
+    settle(x, x.from, x.panel.after_write(v))
 }
 
-fn read(x: Parts, i: u8) -> Moved
-    ensures { result ≡ begun x i }
+#[tactic(auto, using(basics::proofs::Refusals::in_turn), unfolding(crate::specs::Acting::begun, crate::specs::Acting::read_trials, crate::specs::Acting::tried, basics::specs::Refusal::unless))]
+fn read(x: Parts, i: u8) -> Result<Done, Refusal>
+    ensures { moved_by x result ≡ begun x i }
 {
-    if !form::is_panel(x.n, i) {
-        return refused(x, 4);
-    }
-    let down = x.down;
-    if is_down(down, i) {
-        return refused(x, 5);
-    }
-    let p = x.panel;
-    let row = x.from;
-    settle(x, row, p.after_read())
+    Refusal::NoSuchPanel.when(!form::is_panel(x.n, i))?;
+    Refusal::PanelDown.when(is_down(x.down, i))?;
+    settle(x, x.from, x.panel.after_read())
 }
 
-fn deliver(x: Parts, kind: u8, i: u8, j: u8) -> Moved
-    ensures { result ≡ delivered x kind i j }
+#[tactic(auto, using(basics::proofs::Refusals::in_turn), unfolding(crate::specs::Acting::delivered, crate::specs::Acting::deliver_trials, crate::specs::Acting::tried, basics::specs::Refusal::unless))]
+fn deliver(x: Parts, kind: u8, i: u8, j: u8) -> Result<Done, Refusal>
+    ensures { moved_by x result ≡ delivered x kind i j }
 {
-    if !is_pair(x.n, i, j) {
-        return refused(x, 4);
-    }
-    let down = x.down;
-    if is_down(down, j) {
-        return refused(x, 5);
-    }
-    let row = x.from;
-    let c = channels::channel_to(row, place_of(j));
-    if !channels::has(c, kind) {
-        return refused(x, 9);
-    }
-    let p = x.panel;
-    let q = come(p, kind, i, channels::value_in(c, kind));
-    settle(x, channels::taken(row, place_of(j), kind), q)
+    Refusal::NoSuchPanel.when(!is_pair(x.n, i, j))?;
+    Refusal::PanelDown.when(is_down(x.down, j))?;
+    let c = channels::channel_to(x.from, place_of(j));
+    Refusal::NothingInFlight.when(!channels::has(c, kind))?;
+    let q = come(x.panel, kind, i, channels::value_in(c, kind));
+    settle(x, channels::taken(x.from, place_of(j), kind), q)
 }
 
-fn lose(x: Parts, i: u8) -> Moved
-    ensures { result ≡ lost x i }
+#[tactic(auto, using(basics::proofs::Refusals::in_turn), unfolding(crate::specs::Acting::lost, crate::specs::Acting::lose_trials, crate::specs::Acting::tried, basics::specs::Refusal::unless))]
+fn lose(x: Parts, i: u8) -> Result<Done, Refusal>
+    ensures { moved_by x result ≡ lost x i }
 {
-    if !form::is_panel(x.n, i) {
-        return refused(x, 4);
-    }
-    let down = x.down;
-    if is_down(down, i) {
-        return refused(x, 5);
-    }
-    if !one_more_down(x.t, down) {
-        return refused(x, 10);
-    }
-    Moved {
-        answer: Answer::Nothing,
+    Refusal::NoSuchPanel.when(!form::is_panel(x.n, i))?;
+    Refusal::PanelDown.when(is_down(x.down, i))?;
+    Refusal::TooManyDown.when(!one_more_down(x.t, x.down))?;
+    Ok(Done {
+        finished: None,
         parts: with_down(x, i),
+    })
+}
+
+// Refused, the parts are as they were.
+fn told(x: Parts, done: Result<Done, Refusal>) -> Moved
+    ensures { result ≡ moved_by x done }
+{
+    match done {
+        Ok(d) => Moved {
+            answer: Ok(d.finished),
+            parts: d.parts,
+        },
+        Err(refusal) => Moved {
+            answer: Err(refusal),
+            parts: x,
+        },
     }
 }
 
+#[tactic(auto, unfolding(crate::specs::Acting::moved))]
 pub fn act(x: Parts, m: Step) -> Moved
     ensures { result ≡ moved x m }
 {
-    if m.what == 1 {
-        return write(x, m.value);
-    }
-    if m.what == 2 {
-        return read(x, m.at);
-    }
-    if m.what == 3 {
-        return deliver(x, m.kind, m.from, m.at);
-    }
-    if m.what == 4 {
-        return lose(x, m.at);
-    }
-    Moved {
-        answer: Answer::Nothing,
-        parts: x,
+    match m {
+        Step::Write(v) => told(x, write(x, v)),
+        Step::Read(i) => told(x, read(x, i)),
+        Step::Deliver { kind, from, to } => told(x, deliver(x, kind, from, to)),
+        Step::Lose(i) => told(x, lose(x, i)),
+        Step::Rest => Moved {
+            answer: Ok(None),
+            parts: x,
+        },
     }
 }
