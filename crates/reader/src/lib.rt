@@ -8,7 +8,7 @@ ghost use Rattle.reader.specs.Reading.{Next, stepped, started, next};
 pub mod records;
 pub mod wire_messages;
 
-// What is read: an item that begins at a place of the bytes, and the bytes that it used.
+// What a reader reads: how an item is read at a place of the bytes, and how many of them it used.
 pub(crate) trait Item: Copy {
     type Refused: Copy;
 
@@ -40,14 +40,14 @@ pub struct Step<T, E> {
 }
 
 // A reader at the start of the bytes.
-pub fn new<'a>(bytes: &'a [u8]) -> Reader<'a>
+pub fn new(bytes: &[u8]) -> Reader<'_>
     ensures { result ≡ started bytes.entry }
 {
     Reader { bytes, at: 0 }
 }
 
 // The next item, or a refusal; the reader keeps its place.
-pub(crate) fn next<'s, 'a, T: Item>(r: &'s mut Reader<'a>) -> Result<T, T::Refused>
+pub(crate) fn next<T: Item>(r: &mut Reader) -> Result<T, T::Refused>
     ensures { record { read = result; reader = r.new } ≡ next T.reading T.used r.old }
 {
     let item = T::read(r.bytes, r.at)?;

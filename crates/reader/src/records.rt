@@ -28,7 +28,7 @@ impl Item for Taken {
 }
 
 // The next record, or a refusal; the reader keeps its place.
-pub fn next<'s, 'a>(r: &'s mut Reader<'a>) -> Result<Taken, Unread>
+pub fn next(r: &mut Reader) -> Result<Taken, Unread>
     ensures { record { read = result; reader = r.new } ≡ next r.old }
 {
     crate::next(r)

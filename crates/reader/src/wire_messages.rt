@@ -30,7 +30,7 @@ impl Item for Taken {
 }
 
 // The next message, or a refusal; the reader keeps its place.
-pub fn next<'s, 'a>(r: &'s mut Reader<'a>) -> Result<Taken, Refusal>
+pub fn next(r: &mut Reader) -> Result<Taken, Refusal>
     ensures { record { read = result; reader = r.new } ≡ next r.old }
 {
     crate::next(r)

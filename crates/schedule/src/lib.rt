@@ -85,7 +85,7 @@ pub fn read_record(schedule: &[u8], at: usize) -> Result<Taken, Unread>
     Ok(Taken { record, used })
 }
 
-// A kind, and zero in what the kind does not have.
+// A kind, and zero in what the kind does not have; tested without a branch.
 #[tactic(auto, using(crate::proofs::Cases::tests))]
 fn writable(r: Record) -> bool
     ensures { result ≡ writable r }

@@ -51,8 +51,8 @@ module _ (b : ℕ) {k : Kind} (e : kind_of b ≡ Ok k) where
   valued-byte (inr w) = omega (arith, byte-is b e, ap byte_of w)
 
   pub bare_byte : (k ≡ Read) ⊎ (k ≡ Proceed) → (2 ≤ b) × (b < 4)
-  bare_byte (inl w) = (omega (arith, byte-is b e, ap byte_of w), omega (arith, byte-is b e, ap byte_of w))
-  bare_byte (inr w) = (omega (arith, byte-is b e, ap byte_of w), omega (arith, byte-is b e, ap byte_of w))
+  bare_byte (inl w) = let same : b ≡ 2 = byte-is b e ∙ ap byte_of w in (omega arith, omega arith)
+  bare_byte (inr w) = let same : b ≡ 3 = byte-is b e ∙ ap byte_of w in (omega arith, omega arith)
 
 pub size-valued : (k : ℕ) → k < 2 → size_of wire k ≡ 5
 unfolding size_of wire carries ite total
