@@ -80,51 +80,48 @@ impl Text {
     };
 
     #[tactic(auto, unfolding(crate::specs::Text::appended))]
-    fn with_byte(self, b: u8) -> Text
-        requires { self.length < 40 }
-        ensures { Appended self (b ∷ []) 1 result }
+    fn push(&mut self, b: u8)
+        requires { self.old.length < 40 }
+        ensures { Appended self.old (b ∷ []) 1 self.new }
     {
-        let mut bytes = self.bytes;
-        bytes[self.length] = b;
-        Text {
-            length: self.length + 1,
-            bytes,
-        }
+        self.bytes[self.length] = b;
+        self.length += 1;
     }
 
     // The digits in front of the last, and then the last.
-    fn with_number(self, n: u32) -> Text
-        requires { self.length + length (dec n) ≤ 40 }
-        ensures { Appended self (dec n) 10 result }
+    fn push_number(&mut self, n: u32)
+        requires { self.old.length + length (dec n) ≤ 40 }
+        ensures { Appended self.old (dec n) 10 self.new }
     {
-        let last = b'0' + (n % 10) as u8;
-        if n < 10 {
-            self.with_byte(last)
-        } else {
-            self.with_number(n / 10).with_byte(last)
+        if 10 <= n {
+            self.push_number(n / 10);
         }
+        self.push(b'0' + (n % 10) as u8);
     }
 
     // A space and a number, or `-` in its place.
-    fn with_panel(self, panel: Option<u8>) -> Text
-        requires { self.length + 4 ≤ 40 }
-        ensures { Appended self (32 ∷ panel_text panel) 4 result }
+    fn push_panel(&mut self, panel: Option<u8>)
+        requires { self.old.length + 4 ≤ 40 }
+        ensures { Appended self.old (32 ∷ panel_text panel) 4 self.new }
     {
-        let spaced = self.with_byte(b' ');
+        self.push(b' ');
         match panel {
-            Some(n) => spaced.with_number(u32::from(n)),
-            None => spaced.with_byte(b'-'),
+            Some(n) => self.push_number(u32::from(n)),
+            None => self.push(b'-'),
         }
     }
 
-    fn with_result(self, finished: Option<Noted>) -> Text
-        requires { self.length + 12 ≤ 40 }
-        ensures { Appended self (32 ∷ result_text finished) 12 result }
+    fn push_result(&mut self, finished: Option<Noted>)
+        requires { self.old.length + 12 ≤ 40 }
+        ensures { Appended self.old (32 ∷ result_text finished) 12 self.new }
     {
-        let spaced = self.with_byte(b' ');
+        self.push(b' ');
         match finished {
-            Some(r) => spaced.with_byte(r.letter).with_number(r.number),
-            None => spaced.with_byte(b'-'),
+            Some(r) => {
+                self.push(r.letter);
+                self.push_number(r.number);
+            }
+            None => self.push(b'-'),
         }
     }
 }
@@ -132,12 +129,13 @@ impl Text {
 pub fn line_text(l: Line) -> Text
     ensures { (result ≡ text_of (line_text l)) × (result.length ≤ 39) }
 {
-    Text::EMPTY
-        .with_number(l.step)
-        .with_panel(Some(l.kind))
-        .with_panel(l.panels.first())
-        .with_panel(l.panels.second())
-        .with_panel(Some(l.answer))
-        .with_result(l.result)
-        .with_byte(b'\n')
+    let mut text = Text::EMPTY;
+    text.push_number(l.step);
+    text.push_panel(Some(l.kind));
+    text.push_panel(l.panels.first());
+    text.push_panel(l.panels.second());
+    text.push_panel(Some(l.answer));
+    text.push_result(l.result);
+    text.push(b'\n');
+    text
 }

@@ -1,0 +1,4 @@
+use Rattle.text.proofs.Text.+push_number.Given as goal
+
+abbrev pub decreases-push_number : goal.decreases-push_number
+decreases-push_number l = l.n
