@@ -1,11 +1,12 @@
 -- "Each message in flight to a powered panel is accepted when delivered." And a start is accepted where the panel accepts it.
 -- Assumes nothing.
 use Prim.Native.Nat.{ℕ, ◌-◌}
-use mathlib.Core.{Bool.true, Path.◌≡◌}
+use mathlib.Core.Path.{◌≡◌}
 use native.Mathlib.Omega.{arith}
+use Rattle.std.specs.Prelude.{Some}
 use Rattle.refusals.specs.Refusals.{refusal, Event.{write, read}}
 use Rattle.promise.specs.View.{code_of}
-use Rattle.house.specs.{Places.{tables_at, writer_of}, Search.first_in, declared.Network.Network}
+use Rattle.house.specs.{Places.{tables_at, writer_of}, Search.first_in, declared.InFlight.InFlight, declared.Network.Network}
 use Rattle.steps.proofs.{Accepting.{write-accepted, read-accepted, deliver-accepted}, Draining.next-may}
 use Rattle.steps.{proofs.Passing.{MayWrite, MayRead, MayDeliver}, specs.Drain.next_in, specs.Steps.{write_in, read_in, deliver_in}}
 use Rattle.runs.proofs.{Holding.Holds, Sparing.{write-spare, read-spare, deliver-spare}, Taking.message-taken}
@@ -21,6 +22,6 @@ module _ (s : Network) (h : Holds s) where
   deliver-ok k i j m = deliver-accepted s h.good k i j m (message-taken s h k i j m) (record { spare = deliver-spare s h k i j m })
 
   -- what the search finds
-  pub next-ok : (first_in s).any ≡ true → code_of (next_in s).answer ≡ 0
+  pub next-ok : (x : InFlight) → first_in s ≡ Some x → code_of (next_in s x).answer ≡ 0
   unfolding next_in
-  next-ok e = deliver-ok (first_in s).kind (first_in s).sender (first_in s).receiver (next-may s h.good e)
+  next-ok x e = deliver-ok x.kind x.sender x.receiver (next-may s h.good x e)

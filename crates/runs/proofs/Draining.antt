@@ -1,12 +1,13 @@
 -- A drain in a run from fresh: it is never refused, and it is so many accepted deliveries.
 -- Assumes nothing.
 use Prim.Native.Nat.{ℕ, zero, suc, ◌+◌}
-use mathlib.Core.Path.{◌≡◌, refl, ap, subst, ◌∙◌}
+use mathlib.Core.Path.{◌≡◌, refl, sym, ap, subst, ◌∙◌}
 use native.Mathlib.Omega.{arith}
+use Rattle.basics.specs.Refusal.{code}
 use Rattle.promise.specs.View.{code_of}
-use Rattle.house.specs.{Search.first_in, declared.Network.Network}
-use Rattle.steps.proofs.{Draining.by-case, WholeDrain.{drained-is, drained-deliveries, drained-still}}
-use Rattle.steps.specs.{Drain.{next_in, drain_by, drained}, Moves.{Deliveries, none, more}, Numbers.load_of, declared.Drained.Drained}
+use Rattle.house.specs.declared.{InFlight.InFlight, Network.Network}
+use Rattle.steps.proofs.{Draining.by-case, Settling.not-refused, WholeDrain.{drained-is, drained-deliveries, drained-still}}
+use Rattle.steps.specs.{Drain.{counted, next_in, drain_by, drained}, Moves.{Deliveries, none, more}, Numbers.load_of, declared.Drained.Drained}
 use Rattle.runs.specs.Claims.{Still}
 use Rattle.runs.proofs.{Accepting.next-ok, Holding.{Holds, Went, went-none, deliver-went}, Quieting.still-searched}
 
@@ -32,26 +33,23 @@ deliveries-went {s = s} {s' = s'} h (more {m = m} k i j ok rest) =
     let e : 1 + m ≡ suc m = omega arith in
     subst (λ (x : ℕ). Went 0 0 x s s') e (went_then one (deliveries-went one.holds rest))
 
-next-went : (s : Network) → Holds s → code_of (next_in s).answer ≡ 0 → Went 0 0 1 s (next_in s).network
+next-went : (s : Network) → Holds s → (x : InFlight) → code_of (next_in s x).answer ≡ 0 → Went 0 0 1 s (next_in s x).network
 unfolding next_in
-next-went s h ok = deliver-went s h (first_in s).kind (first_in s).sender (first_in s).receiver ok
+next-went s h x ok = deliver-went s h x.kind x.sender x.receiver ok
 
-never-refused : (f : ℕ) (s₀ s : Network) (m : ℕ) → Holds s → (drain_by f s₀ s m).refusal ≡ 0
+never-refused : (f : ℕ) (s₀ s : Network) (m : ℕ) → Holds s → code (drain_by f s₀ s m).answer ≡ 0
 unfolding drain_by
 never-refused zero s₀ s m h = refl
 never-refused (suc f) s₀ s m h =
-    by-case f s₀ s m (λ (d : Drained). d.refusal ≡ 0) (λ _. refl)
-    (λ e ok. never-refused f s₀ (next_in s).network (m + 1) (next-holds ok))
-    (λ e bad. absurd (bad (next-ok s h e)))
-  where
-    next-holds : code_of (next_in s).answer ≡ 0 → Holds (next_in s).network
-    next-holds ok = (next-went s h ok).holds
+    by-case f s₀ s m (λ (d : Drained). code d.answer ≡ 0) (λ _. refl)
+    (λ x e ok. never-refused f s₀ (next_in s x).network (m + 1) (next-went s h x ok).holds)
+    (λ x r e bad. not-refused r (sym (ap code_of bad) ∙ next-ok s h x e))
 
 module _ (s : Network) (h : Holds s) where
-  pub drain-taken : (drained s).refusal ≡ 0
-  drain-taken = ap (λ (d : Drained). d.refusal) (drained-is s h.good) ∙ never-refused (suc (load_of s)) s s 0 h
+  pub drain-taken : code (drained s).answer ≡ 0
+  drain-taken = ap (λ (d : Drained). code d.answer) (drained-is s h.good) ∙ never-refused (suc (load_of s)) s s 0 h
 
-  pub drain-went : Went 0 0 (drained s).count s (drained s).network
+  pub drain-went : Went 0 0 (counted (drained s).answer) s (drained s).network
   drain-went = deliveries-went h (drained-deliveries s h.good drain-taken)
 
   pub drain-still : Still (drained s).network

@@ -4,6 +4,7 @@ use Prim.Native.Nat.{ℕ, ◌+◌, ◌-◌, ◌*◌, ◌≤◌, ◌<◌}
 use mathlib.Core.{Bool.{true, false}, List.List, Path.{◌≡◌, refl, sym, ap, subst, subst₂, ◌∙◌}}
 use native.Mathlib.Omega.{arith}
 use borrow.Author.Tests.{not-true}
+use Rattle.basics.specs.Refusal.{code}
 use Rattle.form.specs.{Form.fits, declared.Operation.TheVariants.Idle}
 use Rattle.protocol.{proofs.AtFirst.{Fresh, fresh-inv, fresh-begun, fresh-made}, proofs.Deliveries.made-most, specs.Invariant.{none, Inv}}
 use Rattle.protocol.specs.World.{W}
@@ -104,7 +105,7 @@ module _ (n t writer v : ℕ) (ok : fits n t writer ≡ true) where
         let w = drain-went end end-holds in
         quiet-idle (drained end).network w.holds (drain-still end end-holds) i (subst (λ (m : ℕ). i < m) (sym (w.same.n ∙ end-n)) b) u
 
-    pub drain-never-refused : (drained end).refusal ≡ 0
+    pub drain-never-refused : code (drained end).answer ≡ 0
     drain-never-refused = drain-taken end end-holds
 
     pub drain-leaves-still : Still (drained end).network

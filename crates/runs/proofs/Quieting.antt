@@ -3,6 +3,7 @@
 use Prim.Native.Nat.{ℕ, ◌<◌}
 use mathlib.Core.{Bool.{true, false}, Logic.◌≢◌, Path.{◌≡◌, ap, ◌∙◌}}
 use native.Mathlib.{Decide.dec_lt, Omega.arith}
+use Rattle.std.specs.Prelude.{None}
 use Rattle.basics.proofs.Choices.{clash}
 use Rattle.tables.specs.Marks.{enough}
 use Rattle.form.specs.declared.Operation.TheVariants.{Idle}
@@ -23,7 +24,7 @@ none-flies c k e = by (dec_lt 0 (in_flight c k))
     by (no h) = omega arith
 
 -- the search finds nothing
-pub still-searched : (s : Network) → Good s → (first_in s).any ≡ false → Still s
+pub still-searched : (s : Network) → Good s → first_in s ≡ None → Still s
 still-searched s g e =
     record { still = λ i j k bi bj u four. none_found s e i j k (place-seven s g i bi) (place-seven s g j bj) four u }
 

@@ -6,7 +6,7 @@ use mathlib.Core.{List.{List, [], ◌∷◌}, Logic.◌≢◌, Path.{◌≡◌, 
 use native.Mathlib.Omega.{arith}
 use lib.Dec.{eqb}
 use borrow.Author.Tests.{eq-eqb, ne_eqb}
-use Rattle.basics.{proofs.Choices.{ite-true, ite-false}, specs.Choice.ite}
+use Rattle.basics.{proofs.Choices.{ite-true, ite-false}, proofs.Refusals.number-some, specs.{Choice.ite, Refusal.number_of}}
 use Rattle.promise.specs.View.{code_of}
 use Rattle.house.specs.declared.Network.{Network}
 use Rattle.steps.{proofs.Networks.good-test, proofs.Settling.{code-refused, checked-in-form}, specs.Steps.{written, begun, delivered, lost}}
@@ -48,9 +48,9 @@ judged-fares s h w r d a (accepted z) go =
       went = went-as (if-taken w z) (if-taken r z) (if-taken d z) (go z);
       ordinary = subst Ordinary (sym z) ordinary-0;
     }
-judged-fares s h w r d a (refused k is n o) go =
-    let e : code_of a.answer ≡ k = ap (λ (x : Stepped). code_of x.answer) is ∙ code-refused k in
-    let m : code_of a.answer ≢ 0 = λ z. n (sym e ∙ z) in
+judged-fares s h w r d a (refused why is o) go =
+    let e : code_of a.answer ≡ number_of why = ap (λ (x : Stepped). code_of x.answer) is ∙ code-refused why in
+    let m : code_of a.answer ≢ 0 = λ z. number-some why (sym e ∙ z) in
     record {
       went = subst (λ (x : Stepped). Went (ite (eqb (code_of a.answer) 0) w 0) (ite (eqb (code_of a.answer) 0) r 0) (ite (eqb (code_of a.answer) 0) d 0) s x.network)
           (sym is) (went-as (if-refused w m) (if-refused r m) (if-refused d m) (went-none s h));

@@ -2,10 +2,10 @@
 -- off the steps and their answers alone.
 -- Assumes nothing.
 use Rattle.std.specs.Prelude.{ℕ, ◌+◌, List, [], ◌∷◌, eqb}
-use Rattle.basics.specs.Choice.{ite}
+use Rattle.basics.specs.{Choice.ite, Refusal.code}
 use Rattle.promise.specs.View.{code_of}
 use Rattle.house.specs.declared.Network.{Network}
-use Rattle.steps.specs.{Drain.drained, Steps.{written, begun, delivered, lost}, declared.Drained.Drained, declared.Stepped.Stepped}
+use Rattle.steps.specs.{Drain.{counted, drained}, Steps.{written, begun, delivered, lost}, declared.Drained.Drained, declared.Stepped.Stepped}
 
 -- starts, a delivery (kind, sender, receiver), power loss, drain
 pub data Step : Type 0 where
@@ -27,7 +27,7 @@ did a d = record { network = a.network; refusal = code_of a.answer; deliveries =
 
 -- a drain's answer counts its deliveries
 unfoldable pub emptied : Drained → Did
-emptied a = record { network = a.network; refusal = a.refusal; deliveries = a.count }
+emptied a = record { network = a.network; refusal = code a.answer; deliveries = counted a.answer }
 
 unfoldable pub does : Network → Step → Did
 does s (write v) = did (written s v) 0
