@@ -5,3 +5,4 @@ pub mod Lists
 pub mod Refusals
 pub mod Outcomes
 pub mod KindBytes
+pub mod Made

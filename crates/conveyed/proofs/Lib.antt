@@ -1,4 +1,3 @@
 pub mod Parts
 pub mod Lengths
-pub mod Made
 pub mod Outcomes

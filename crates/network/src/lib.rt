@@ -3,30 +3,23 @@
 #![tactic(auto)]
 
 ghost use Rattle.std.specs.Prelude.{◌≡◌, true, ℕ, ◌+◌};
+ghost use Rattle.std.specs.Result.{result_unwrap_or};
 ghost use Rattle.basics.specs.Below.{list_below};
-ghost use Rattle.panel.specs.Calls.{made};
+ghost use Rattle.panel.specs.Calls.{made, nothing};
 ghost use Rattle.house.specs.NetForm.{net_form};
 ghost use Rattle.house.specs.Search.{first_in};
-ghost use Rattle.steps.specs.Steps.{refused_by, written, begun, delivered, lost};
+ghost use Rattle.steps.specs.Steps.{checked, written, begun, delivered, lost};
 ghost use Rattle.steps.specs.Search.{sought};
-ghost use Rattle.steps.specs.Drain.{drained_to, drain_in, drained};
+ghost use Rattle.steps.specs.Drain.{drain_in, drained};
 ghost use Rattle.steps.specs.SetUp.{fresh_network, set_up};
 ghost use Rattle.parts.specs.Steps.{step_in};
 
-use events::Answer;
-use house::{Found, Network};
+use basics::Refusal;
+use house::{InFlight, Network};
 use panel::Panel;
 use parts::{Parts, Step};
-use steps::{Drained, Ready, Sought, Stepped};
-
-fn refused(s: Network, k: u8) -> Stepped
-    ensures { result ≡ refused_by s k }
-{
-    Stepped {
-        network: s,
-        answer: Answer::Refused(k),
-    }
-}
+use std::array;
+use steps::{Drained, Stepped};
 
 // ---- the steps of a network in form: its parts are taken out, moved and put back
 
@@ -36,57 +29,54 @@ fn step_in(s: Network, m: Step) -> Stepped
 {
     let mut panels = s.panels;
     let mut rows = s.rows;
-    let down = s.down;
     let first = panels[0];
     let f = first.tables;
     let to = parts::actor(m, f.writer);
     let from = parts::sender(m, f.writer);
-    let actor = panels[to];
-    let sender = rows[from];
-    let own = rows[to];
     let x = Parts {
         n: f.n,
         t: f.t,
         writer: f.writer,
-        down,
-        panel: actor,
-        from: sender,
-        own,
+        down: s.down,
+        panel: panels[to],
+        from: rows[from],
+        own: rows[to],
     };
-    let a = parts::act(x, m);
-    let answer = a.answer;
-    let y = a.parts;
-    let actor = y.panel;
-    let sender = y.from;
-    let own = y.own;
-    let down = y.down;
-    panels[to] = actor;
-    rows[from] = sender;
-    rows[to] = own;
+    let moved = parts::act(x, m);
+    let y = moved.parts;
+    panels[to] = y.panel;
+    rows[from] = y.from;
+    rows[to] = y.own;
     Stepped {
-        network: Network { panels, rows, down },
-        answer,
+        network: Network {
+            panels,
+            rows,
+            down: y.down,
+        },
+        answer: moved.answer,
     }
+}
+
+// The step of any network: 2 is tried first.
+#[tactic(auto, unfolding(steps::specs::Steps::checked, basics::specs::Choice::ite))]
+fn step(s: Network, m: Step) -> Stepped
+    ensures { result ≡ checked s (step_in s m) }
+{
+    if !house::in_form(s) {
+        return Stepped {
+            network: s,
+            answer: Err(Refusal::NotInForm),
+        };
+    }
+    step_in(s, m)
 }
 
 // ---- drain
 
-fn drained_to(s: Network, k: u8, m: usize) -> Drained
-    ensures { result ≡ drained_to s k m }
-{
-    Drained {
-        network: s,
-        refusal: k,
-        count: m,
-    }
-}
-
-fn first_in_flight(s: Network) -> Found
+fn first_in_flight(s: Network) -> Option<InFlight>
     ensures { result ≡ first_in s }
 {
-    let rows = s.rows;
-    let down = s.down;
-    house::first_in_flight(rows, down)
+    house::first_in_flight(s.rows, s.down)
 }
 
 fn drain_in(s: Network) -> Drained
@@ -96,69 +86,57 @@ fn drain_in(s: Network) -> Drained
     house::whole(s);
     let mut at = s;
     let mut count = 0;
-    loop {
-        let found = first_in_flight(at);
-        if !found.any {
-            return drained_to(at, 0, count);
-        }
+    while let Some(found) = first_in_flight(at) {
         let o = step_in(
             at,
-            parts::delivery(found.kind, found.sender, found.receiver),
+            Step::Deliver {
+                kind: found.kind,
+                from: found.sender,
+                to: found.receiver,
+            },
         );
-        let answer = o.answer;
-        let k = parts::code_of(answer);
-        if k != 0 {
-            return drained_to(s, k, 0);
+        if let Err(refusal) = o.answer {
+            let answer = Err(refusal);
+            return Drained { network: s, answer };
         }
-        let next = o.network;
-        at = next;
+        at = o.network;
         count += 1;
+    }
+    Drained {
+        network: at,
+        answer: Ok(count),
     }
 }
 
 // ---- set-up
 
-fn fresh_panel(n: u8, t: u8, writer: u8, number: u8, initial: u32) -> Panel
-    ensures { result ≡ (made n t writer number initial).panel }
-{
-    let m = Panel::set_up(n, t, writer, number, initial);
-    m.panel
-}
-
 fn fresh_panels(n: u8, t: u8, writer: u8, initial: u32) -> [Panel; 7]
-    ensures { result ≡ list_below 7 (λ (i : ℕ). (made n t writer (i + 1) initial).panel) }
+    ensures { result ≡ list_below 7 (λ (i : ℕ). result_unwrap_or (made n t writer (i + 1) initial) nothing) }
 {
-    let none = fresh_panel(0, 0, 0, 0, 0);
-    let mut panels = [none; 7];
-    for i in 0..7 {
-        panels[i] = fresh_panel(n, t, writer, (i + 1) as u8, initial);
-    }
-    panels
+    array::from_fn(|i| {
+        Panel::set_up(n, t, writer, (i + 1) as u8, initial).unwrap_or(Panel::nothing())
+    })
 }
 
+#[tactic(auto, unfolding(steps::specs::SetUp::fresh_network))]
 fn fresh(n: u8, t: u8, writer: u8, initial: u32) -> Network
     ensures { result ≡ fresh_network n t writer initial }
 {
-    let panels = fresh_panels(n, t, writer, initial);
-    let row = channels::empty_row();
     Network {
-        panels,
-        rows: [row; 7],
+        panels: fresh_panels(n, t, writer, initial),
+        rows: [channels::empty_row(); 7],
         down: [false; 7],
     }
 }
 
 // ---- the public calls
 
-pub fn set_up(n: u8, t: u8, writer: u8, initial: u32) -> Ready
+#[tactic(auto, using(basics::proofs::Refusals::in_turn), unfolding(steps::specs::SetUp::set_up))]
+pub fn set_up(n: u8, t: u8, writer: u8, initial: u32) -> Result<Network, Refusal>
     ensures { result ≡ set_up n t writer initial }
 {
-    let fits = form::fits(n, t, writer);
-    let network = fresh(n, t, writer, initial);
-    Ready {
-        refusal: if fits { 0 } else { 1 },
-        network,
-    }
+    Refusal::OutOfRange.when(!form::fits(n, t, writer))?;
+    Ok(fresh(n, t, writer, initial))
 }
 
 pub fn in_form(s: Network) -> bool
@@ -167,67 +145,50 @@ pub fn in_form(s: Network) -> bool
     house::in_form(s)
 }
 
+#[tactic(auto, unfolding(parts::specs::Steps::step_in))]
 pub fn write(s: Network, v: u32) -> Stepped
     ensures { result ≡ written s v }
 {
-    if !house::in_form(s) {
-        return refused(s, 2);
-    }
-    step_in(s, parts::step_at(1, 0, v))
+    step(s, Step::Write(v))
 }
 
+#[tactic(auto, unfolding(parts::specs::Steps::step_in))]
 pub fn read(s: Network, i: u8) -> Stepped
     ensures { result ≡ begun s i }
 {
-    if !house::in_form(s) {
-        return refused(s, 2);
-    }
-    step_in(s, parts::step_at(2, i, 0))
+    step(s, Step::Read(i))
 }
 
+#[tactic(auto, unfolding(parts::specs::Steps::step_in))]
 pub fn deliver(s: Network, kind: u8, i: u8, j: u8) -> Stepped
     ensures { result ≡ delivered s kind i j }
 {
-    if !house::in_form(s) {
-        return refused(s, 2);
-    }
-    step_in(s, parts::delivery(kind, i, j))
+    let (from, to) = (i, j);
+    step(s, Step::Deliver { kind, from, to })
 }
 
+#[tactic(auto, unfolding(parts::specs::Steps::step_in))]
 pub fn lose_power(s: Network, i: u8) -> Stepped
     ensures { result ≡ lost s i }
 {
-    if !house::in_form(s) {
-        return refused(s, 2);
-    }
-    step_in(s, parts::step_at(4, i, 0))
+    step(s, Step::Lose(i))
 }
 
-pub fn next_delivery(s: Network) -> Sought
+#[tactic(auto, using(basics::proofs::Refusals::in_turn), unfolding(steps::specs::Search::sought))]
+pub fn next_delivery(s: Network) -> Result<Option<InFlight>, Refusal>
     ensures { result ≡ sought s }
 {
-    if !house::in_form(s) {
-        return Sought {
-            refusal: 2,
-            found: Found {
-                any: false,
-                sender: 0,
-                receiver: 0,
-                kind: 0,
-            },
-        };
-    }
-    Sought {
-        refusal: 0,
-        found: first_in_flight(s),
-    }
+    Refusal::NotInForm.when(!house::in_form(s))?;
+    Ok(first_in_flight(s))
 }
 
+#[tactic(auto, unfolding(steps::specs::Drain::drained, basics::specs::Choice::ite))]
 pub fn drain(s: Network) -> Drained
     ensures { result ≡ drained s }
 {
     if !house::in_form(s) {
-        return drained_to(s, 2, 0);
+        let answer = Err(Refusal::NotInForm);
+        return Drained { network: s, answer };
     }
     drain_in(s)
 }

@@ -1,6 +1,6 @@
 use Rattle.std.proofs.Common.{rules, ◌+◌, ◌*◌, ℕ, ap, List}
 use Rattle.channels.specs.declared.{Channel.Channel}
-use Rattle.conveyed.proofs.{Made.made-by}
+use Rattle.basics.proofs.Made.{made-by}
 use Rattle.conveyed.specs.Networks.{row_from, channel_from}
 use Rattle.conveyed.proofs.row_from.Goals as goal
 

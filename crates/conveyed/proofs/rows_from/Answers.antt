@@ -1,5 +1,5 @@
 use Rattle.std.proofs.Common.{rules}
-use Rattle.conveyed.proofs.{Made.made-by}
+use Rattle.basics.proofs.Made.{made-by}
 use Rattle.conveyed.proofs.rows_from.Goals as goal
 
 pub returns : goal.returns
