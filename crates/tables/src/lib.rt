@@ -51,6 +51,7 @@ fn entry_ok(inside: bool, before: u8, x: u8, low: u8, high: u8) -> bool
 }
 
 // k is a byte, as the entries are, and no turn ends the loop: the compiler tests sixteen entries at once.
+#[tactic(auto, using(crate::proofs::Turns::testing), unfolding(crate::specs::Form::line_ok))]
 pub fn line_ok(l: Line, low: WriteNo, high: WriteNo) -> bool
     ensures { result ≡ line_ok l low.0 high.0 }
 {
@@ -81,6 +82,7 @@ pub fn quiet_ok(h: Hold, l: Line) -> bool
     both(!h.full, l.len == 0)
 }
 
+#[tactic(auto, using(crate::proofs::Turns::testing))]
 pub fn history_ok(history: [u32; 201], high: WriteNo) -> bool
     ensures { result ≡ history_ok history high.0 }
 {
@@ -150,6 +152,7 @@ pub fn enough(n: u8, t: u8, marked: [bool; 7]) -> bool
 
 // ---- lines
 
+#[tactic(auto, using(crate::proofs::Turns::joining), unfolding(crate::specs::Lines::joined))]
 pub fn joined(l: Line, x: WriteNo) -> Line
     ensures { result ≡ ite (ltb l.len 100) (joined l x) l }
 {
@@ -169,6 +172,7 @@ fn first_above(sn: &[WriteNo], len: usize, x: WriteNo) -> Option<usize>
 }
 
 // Up to the first entry above x, or all of them.
+#[tactic(auto, using(crate::proofs::Turns::parting))]
 pub fn leaving(l: Line, x: WriteNo) -> u8
     ensures { result ≡ leaving l x.0 }
 {
@@ -178,6 +182,7 @@ pub fn leaving(l: Line, x: WriteNo) -> u8
     }
 }
 
+#[tactic(auto, using(crate::proofs::Turns::moving))]
 pub fn without(l: Line, m: u8) -> Line
     ensures { result ≡ without l m }
 {
