@@ -1,7 +1,7 @@
 -- The laws of posting one message, and of messages behind messages: by these the code goes.
 -- Assumes nothing.
 use mathlib.Core.{Bool.{Bool, true, false}, List.{List, [], ◌∷◌, ◌++◌}, Logic.◌↔◌, Path.{◌≡◌, refl, sym, ap, ◌∙◌}}
-use Prim.Native.Nat.{◌-◌, ◌≤◌, ◌<◌}
+use Prim.Native.Nat.{◌-◌, ◌≤◌}
 use lib.Dec.{leb}
 use borrow.Author.Tests.{leb-true, le-leb, lt-leb}
 use Rattle.basics.proofs.Choices.{clash, ite-true, ite-false, ite-case, both_left, both_right, both_true, both-false-left, both-false-right}
@@ -32,17 +32,6 @@ module _ (s : Posted) (m : Message) where
   post-taken e f = ite-true _ _ e ∙ ite-true _ _ f
 
 module _ (r : Row) (m : Message) where
-  pub outside : both (leb 1 m.to) (leb m.to 7) ≡ false → fits_in r m ≡ false
-  unfolding fits_in
-  outside e = both-false-left _ e
-
-  -- there are no such panels
-  pub too-low : m.to < 1 → fits_in r m ≡ false
-  too-low h = outside (both-false-left _ (lt-leb _ _ h))
-
-  pub too-high : 7 < m.to → fits_in r m ≡ false
-  too-high h = outside (both-false-right _ (lt-leb _ _ h))
-
   pub no_room : room (channel_at r (m.to - 1)) m.kind ≡ false → fits_in r m ≡ false
   unfolding fits_in
   no_room e = both-false-right _ e
@@ -110,6 +99,9 @@ posts-append s (m ∷ ms) ns = posts-append (post s m) ms ns
 
 -- how a loop over messages goes on
 pub ruleset posting = (posts-none, posts-one, posts-append, below_none, below-marked, below-unmarked, proceeds-none, proceeds-next)
+
+-- whether a message fits
+pub ruleset fitting = (ite-true, ite-false, both_true, both-false-left, both-false-right, le-leb, lt-leb)
 
 -- and where one message is put
 pub ruleset one = (ite-true, ite-false, chosen, none-chosen)

@@ -26,8 +26,8 @@ pub struct Row {
     pub to: [Channel; 7],
 }
 
-// A row, and whether all messages so far found room: where one did not, the row as it was filled up to there. The flag stands beside
-// the row, and not in an Err, since a network promises its row as far as it was filled too.
+// A row, and whether all messages so far found room. Where one found none the row is as it was filled up to there, and this row is
+// promised too: so a flag stands beside it, in place of an Err.
 #[derive(Clone, Copy, Debug, PartialEq, Eq)]
 pub struct Posted {
     pub fits: bool,
@@ -228,6 +228,7 @@ pub fn taken(r: Row, j: usize, kind: u8) -> Row
 // ---- what is sent
 
 // The row with one message more, where it finds room.
+#[tactic(auto, using(crate::proofs::Posting::fitting), unfolding(crate::specs::Posting::fits_in))]
 fn put(row: Row, to: u8, kind: u8, v: u32) -> Option<Row>
     ensures { result ≡ ite (fits_in row (record { to = to; kind = kind; value = v })) (Some (with_channel row (to - 1) (joined (channel_at row (to - 1)) kind v))) None }
 {

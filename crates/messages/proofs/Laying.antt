@@ -10,6 +10,7 @@ use lib.Seq.{sets, sets-eq, length-sets, get_or-set_same, get_or-set_other}
 use Rattle.basics.proofs.Lists.{sets-append}
 use Rattle.messages.specs.{Area.{Area, Laid, laid, Further, laid_in, room_of, laying}, Sends.{Message, messages_of}}
 use Rattle.messages.specs.declared.Sends.{Sends}
+use Rattle.messages.proofs.Messages.{below-most, cast-most, length-proceeds}
 
 -- ---- a list of numbers
 
@@ -116,3 +117,6 @@ further-as {l} {m} e f = subst (λ (ks : List Message). Further l ks m) (sym e) 
 pub laying-all : (s : Sends) {a : Area} {m : Laid} → Further (record { count = 0; area = a }) (messages_of s) m → m ≡ laying s a
 unfolding laying
 laying-all s f = ap₂ (λ (n : ℕ) (b : Area). record { count = n; area = b }) (f.count_is ∙ zero-add _) f.area_is
+
+-- what bounds a place where the code lays a message
+pub ruleset steps = (below-most, cast-most, length-proceeds)

@@ -85,9 +85,6 @@ unfolding proceeds_to
 length-proceeds zero j = refl
 length-proceeds (suc m) j = length-append (proceeds_to m j) _ ∙ ap (λ (n : ℕ). n + 1) (length-proceeds m j) ∙ add-one m
 
--- what bounds a place where a message is laid
-pub ruleset counts = (below-most, cast-most, length-proceeds)
-
 pub length-messages : (s : Sends) → length (messages_of s) ≡ length (cast_of s.own) + (length (cast_of s.held) + s.proceeds)
 unfolding messages_of
 length-messages s = simp (length-append, length-proceeds)

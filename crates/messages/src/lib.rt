@@ -83,7 +83,7 @@ fn put(
     at + 1
 }
 
-#[tactic(auto, using(crate::proofs::Messages::counts))]
+#[tactic(auto, using(crate::proofs::Laying::steps), unfolding(crate::specs::Sends::cast_of))]
 fn lay_cast(
     c: Cast,
     from: usize,
@@ -104,7 +104,7 @@ fn lay_cast(
     at
 }
 
-#[tactic(auto, using(crate::proofs::Messages::counts))]
+#[tactic(auto, using(crate::proofs::Laying::steps))]
 fn lay_proceeds(
     peer: u8,
     m: u8,
@@ -125,7 +125,7 @@ fn lay_proceeds(
 }
 
 // Lays what s sends into the first places, and says how many messages that is. A place past a slice's end is not written.
-#[tactic(auto, using(crate::proofs::Messages::counts))]
+#[tactic(auto, using(crate::proofs::Laying::steps))]
 pub fn lay(s: Sends, receivers: &mut [u8], kinds: &mut [u8], values: &mut [u32]) -> usize
     ensures { record { count = result; area = record { receivers = receivers.new; kinds = kinds.new; values = values.new } } ≡ laying s (record { receivers = receivers.old; kinds = kinds.old; values = values.old }) }
 {

@@ -5,7 +5,7 @@ use Prim.Native.Nat.{ℕ, zero, suc, ◌+◌, ◌-◌, ◌≤◌, ◌<◌, min}
 use native.Mathlib.{Nat.{zero-add, add-zero, add-suc}, Decide.dec_lt, Omega.arith}
 use lib.{Dec.{leb, ltb, eqb}, ListN.{length, get_or, drop, replicate, take, length-drop, drop_of_length-le, get_or-eq_default}}
 use lib.Seq.{get_or-drop, ext_get_or, drop-cons, take_all}
-use borrow.Author.Tests.{le-leb, lt-leb, eq-eqb, ltb-true, ltb-false}
+use borrow.Author.Tests.{le-leb, lt-leb, eq-eqb, ltb-true, ltb-false, lt-ltb, le-ltb}
 use Rattle.basics.{proofs.Below.{all-next, all_of, length-list_below, get_or-list_below}, proofs.Choices.{ite-true, ite-false}, specs.Below.{all_below, list_below}}
 use Rattle.std.{proofs.lemmas.Iterator.Adapters.position_from-zero, specs.List.{position_from, position}, specs.Prelude.{nat_lt, MatchOption, Option, None, Some}}
 use Rattle.basics.specs.Choice.{ite, both}
@@ -120,3 +120,16 @@ module _ (l : Line) (m from : ℕ) (long : length l.sn ≡ 100) (here : from ≡
       ap₂ (λ (n : ℕ) (s : List WriteNo). record { len = n; sn = s }) e
       (ap (λ (s : List WriteNo). s ++ drop (100 - from) (replicate 100 no_write)) (copied ∙ take_all (length l.sn - from) (drop from l.sn) (omega (arith, length-drop from l.sn)) ∙ front)
       ∙ filled-rest moved no_write 100 (100 - from) (omega arith) (λ k a b. get_or-eq_default l.sn no_write (omega (arith, long, here, a))))
+
+-- what the loops and the choices of the code go by
+pub all-none : (f : ℕ → Bool) → all_below 0 f ≡ true
+unfolding all_below
+all-none f = refl
+
+pub ruleset testing = (all-none, line-next, history-start, history-next, history-end)
+
+pub ruleset joining = (ite-true, ite-false, lt-ltb, le-ltb)
+
+pub ruleset parting = (leaving-some, leaving-all)
+
+pub ruleset moving = (without-made)

@@ -9,7 +9,7 @@ ghost use Rattle.tables.specs.Marks.{has_w, reaches_w, has_r, is_other, marks, o
 ghost use Rattle.tables.specs.Form.{line_ok, hold_ok, quiet_ok, history_ok};
 ghost use Rattle.tables.specs.Lines.{joined, leaving, without};
 
-use basics::{both, choose};
+use basics::{both, choose, one_if};
 use std::array;
 
 // How far a panel is known to be with writes. Never counted or compared as a read number.
@@ -50,16 +50,20 @@ fn entry_ok(inside: bool, before: u8, x: u8, low: u8, high: u8) -> bool
     choose(inside, both(low < x, both(x <= high, before <= x)), x == 0)
 }
 
-// k is a byte, as the entries are, and no turn ends the loop: the compiler tests sixteen entries at once.
+// `place` is a byte, as the entries are, and no turn ends the loop: so the compiler tests sixteen entries at once, and with a wider
+// count it does not.
+#[tactic(auto, using(crate::proofs::Turns::testing), unfolding(crate::specs::Form::line_ok))]
 pub fn line_ok(l: Line, low: WriteNo, high: WriteNo) -> bool
     ensures { result ≡ line_ok l low.0 high.0 }
 {
     let mut ok = true;
     let mut before = l.sn[0].0;
-    for k in 0..100u8 {
-        let x = l.sn[usize::from(k)].0;
-        ok = both(ok, entry_ok(k < l.len, before, x, low.0, high.0));
+    let mut place = 0u8;
+    for x in &l.sn {
+        let x = x.0;
+        ok = both(ok, entry_ok(place < l.len, before, x, low.0, high.0));
         before = x;
+        place += 1;
     }
     both(l.len <= 100, ok)
 }
@@ -81,6 +85,7 @@ pub fn quiet_ok(h: Hold, l: Line) -> bool
     both(!h.full, l.len == 0)
 }
 
+#[tactic(auto, using(crate::proofs::Turns::testing))]
 pub fn history_ok(history: [u32; 201], high: WriteNo) -> bool
     ensures { result ≡ history_ok history high.0 }
 {
@@ -141,15 +146,20 @@ pub fn only_place(k: usize) -> [bool; 7]
     array::from_fn(|j| j == k)
 }
 
+// Counted without a branch, since each event asks this.
 pub fn enough(n: u8, t: u8, marked: [bool; 7]) -> bool
     ensures { result ≡ leb (n - t) (count_below 7 (λ (j : ℕ). get_or marked j false)) }
 {
-    let count = marked.iter().filter(|m| **m).count();
+    let mut count = 0;
+    for m in &marked {
+        count += one_if(*m);
+    }
     usize::from(n.saturating_sub(t)) <= count
 }
 
 // ---- lines
 
+#[tactic(auto, using(crate::proofs::Turns::joining), unfolding(crate::specs::Lines::joined))]
 pub fn joined(l: Line, x: WriteNo) -> Line
     ensures { result ≡ ite (ltb l.len 100) (joined l x) l }
 {
@@ -169,6 +179,7 @@ fn first_above(sn: &[WriteNo], len: usize, x: WriteNo) -> Option<usize>
 }
 
 // Up to the first entry above x, or all of them.
+#[tactic(auto, using(crate::proofs::Turns::parting))]
 pub fn leaving(l: Line, x: WriteNo) -> u8
     ensures { result ≡ leaving l x.0 }
 {
@@ -178,6 +189,7 @@ pub fn leaving(l: Line, x: WriteNo) -> u8
     }
 }
 
+#[tactic(auto, using(crate::proofs::Turns::moving))]
 pub fn without(l: Line, m: u8) -> Line
     ensures { result ≡ without l m }
 {

@@ -4,5 +4,8 @@ use Rattle.basics.specs.Below.{all_below}
 use Rattle.tables.specs.{Form.entry_ok, Places.w_at}
 use Rattle.tables.proofs.line_ok.Given as goal
 
-abbrev pub invariant-loop-k : goal.invariant-loop-k
-invariant-loop-k v = (v.before ≡ w_at v.l.sn (v.k - 1)) × (v.ok ≡ all_below v.k (entry_ok v.l v.low.0 v.high.0))
+abbrev pub invariant-loop-x : goal.invariant-loop-x
+invariant-loop-x v =
+    (v.place ≡ v.x-index)
+    × (v.before ≡ w_at v.fn.l.sn (v.x-index - 1))
+    × (v.ok ≡ all_below v.x-index (entry_ok v.fn.l v.fn.low.0 v.fn.high.0))
