@@ -29,6 +29,7 @@ fn step_in(s: Network, m: Step) -> Stepped
 {
     let mut panels = s.panels;
     let mut rows = s.rows;
+    let down = s.down;
     let first = panels[0];
     let f = first.tables;
     let to = parts::actor(m, f.writer);
@@ -37,7 +38,7 @@ fn step_in(s: Network, m: Step) -> Stepped
         n: f.n,
         t: f.t,
         writer: f.writer,
-        down: s.down,
+        down,
         panel: panels[to],
         from: rows[from],
         own: rows[to],
@@ -47,12 +48,9 @@ fn step_in(s: Network, m: Step) -> Stepped
     panels[to] = y.panel;
     rows[from] = y.from;
     rows[to] = y.own;
+    let down = y.down;
     Stepped {
-        network: Network {
-            panels,
-            rows,
-            down: y.down,
-        },
+        network: Network { panels, rows, down },
         answer: moved.answer,
     }
 }

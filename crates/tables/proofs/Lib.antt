@@ -1,5 +1,4 @@
 pub mod Filling
-pub mod Made
 pub mod Counting
 pub mod Marks
 pub mod Quorum

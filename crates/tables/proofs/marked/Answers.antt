@@ -1,7 +1,7 @@
 use borrow.Author.Rules.{rules}
 use native.Mathlib.Omega.{arith}
 use Rattle.std.proofs.iter.Serving.{serving}
-use Rattle.tables.proofs.Made.{made-by}
+use Rattle.basics.proofs.Made.{made-by}
 use Rattle.tables.specs.Marks.{marks, among}
 use Rattle.tables.proofs.marked.Goals as goal
 

@@ -1,5 +1,5 @@
 use borrow.Author.Rules.{rules}
-use Rattle.tables.proofs.Made.{made-by}
+use Rattle.basics.proofs.Made.{made-by}
 use Rattle.tables.specs.Marks.{only_place}
 use Rattle.tables.proofs.only_place.Goals as goal
 
