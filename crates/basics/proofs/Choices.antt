@@ -1,7 +1,8 @@
 -- The laws of a choice and of two tests at once.
 -- Assumes nothing.
 use mathlib.Core.{Bool.{Bool, true, false}, Path.{◌≡◌, refl, sym, subst, ◌∙◌}}
-use Rattle.basics.specs.Choice.{ite, both}
+use Rattle.std.specs.Prelude.{Option, Some, None}
+use Rattle.basics.specs.Choice.{ite, both, some_or}
 
 pub ite-true {ℓ} : {A : Type ℓ} {b : Bool} (x y : A) → b ≡ true → ite b x y ≡ x
 unfolding ite
@@ -59,3 +60,11 @@ pub both-false-right : (a : Bool) {b : Bool} → b ≡ false → both a b ≡ fa
 unfolding both
 both-false-right true h = h
 both-false-right false h = refl
+
+pub some_or-none {ℓ} : {A : Type ℓ} {B : Type 0} {o : Option B} (f : B → A) (x : A) → o ≡ None → some_or o f x ≡ x
+unfolding some_or
+some_or-none f x h = rw h
+
+pub some_or-some {ℓ} : {A : Type ℓ} {B : Type 0} {o : Option B} {b : B} (f : B → A) (x : A) → o ≡ Some b → some_or o f x ≡ f b
+unfolding some_or
+some_or-some f x h = rw h

@@ -6,7 +6,7 @@ use Prim.Native.Nat.{ℕ, ◌<◌}
 use native.Mathlib.Omega.{arith}
 use lib.Dec.{lit<}
 use Rattle.std.specs.Prelude.{Result, Ok, Err}
-use Rattle.basics.specs.{Choice.ite, Refusal.{Trial, first_of, met, unless, number_of, code}}
+use Rattle.basics.specs.{Choice.ite, Refusal.{Trial, first_of, met, unless, and_then, number_of, code}}
 use Rattle.basics.specs.declared.refused.Refusal.{Refusal}
 use Rattle.basics.specs.declared.refused.Refusal.TheVariants.{OutOfRange, NotInForm, AreaTooShort, NoSuchPanel, PanelDown, NotTheWriter, Unfinished, UsedUp, NothingInFlight}
 use Rattle.basics.specs.declared.refused.Refusal.TheVariants.{TooManyDown, StrayWrite, StrayProceed, LineFull, ChannelFull, UnknownKind, CutShort, SetUpMisplaced}
@@ -130,6 +130,9 @@ met-nothing ts z = go (met ts) (code-met ts ∙ z)
     go (Ok tt) e = refl
     go (Err r) e = absurd (number-some r e)
 
+pub none-met : (ts : List Trial) → Ok tt ≡ met ts → first_of ts ≡ 0
+none-met ts e = sym (code-met ts) ∙ sym (ap code e)
+
 -- what holds where nothing is met, and where a refusal is, holds of what comes of it
 pub unless-case {ℓ κ} :
     {A : Type ℓ} (P : A → Type κ) (ts : List Trial) (x : A) (f : Refusal → A) → (first_of ts ≡ 0 → P x) →
@@ -144,10 +147,40 @@ unless-case P ts x f none some = go (met ts) (code-met ts)
 pub unless-passed {ℓ} : {A : Type ℓ} (ts : List Trial) (x : A) (f : Refusal → A) → first_of ts ≡ 0 → unless (met ts) x f ≡ x
 unless-passed ts x f z = unless-case (λ a. a ≡ x) ts x f (λ _. refl) (λ r e. absurd (number-some r (sym e ∙ z)))
 
-pub unless-ok {ℓ} : {A : Type ℓ} {m : Result Unit Refusal} (x : A) (f : Refusal → A) → m ≡ Ok tt → unless m x f ≡ x
+pub unless-ok {ℓ} : {A : Type ℓ} {B : Type 0} {m : Result B Refusal} {b : B} (x : A) (f : Refusal → A) → m ≡ Ok b → unless m x f ≡ x
 unfolding unless
 unless-ok x f h = rw h
 
-pub unless-err {ℓ} : {A : Type ℓ} {m : Result Unit Refusal} {r : Refusal} (x : A) (f : Refusal → A) → m ≡ Err r → unless m x f ≡ f r
+pub unless-err {ℓ} : {A : Type ℓ} {B : Type 0} {m : Result B Refusal} {r : Refusal} (x : A) (f : Refusal → A) → m ≡ Err r → unless m x f ≡ f r
 unfolding unless
 unless-err x f h = rw h
+
+-- what holds of what comes next, and of what each refusal makes, holds of what comes of an answer
+pub answer-case {ℓ κ} :
+    {A : Type ℓ} {B : Type 0} (P : A → Type κ) (m : Result B Refusal) (x : A) (f : Refusal → A) → ((b : B) → m ≡ Ok b → P x) →
+    ((r : Refusal) → m ≡ Err r → P (f r)) → P (unless m x f)
+unfolding unless
+answer-case P (Ok b) x f ok err = ok b refl
+answer-case P (Err r) x f ok err = err r refl
+
+-- ---- one trial after the other
+
+pub met-cons : (t : Trial) (us : List Trial) → met (t ∷ us) ≡ and_then (met (t ∷ [])) (met us)
+unfolding met ite
+met-cons t us = go t.given
+  where
+    go : (b : Bool) → ite b (Err t.refusal) (met us) ≡ and_then (ite b (Err t.refusal) (Ok tt)) (met us)
+    go true = refl
+    go false = refl
+
+pub met-append : (ts us : List Trial) → met (ts ++ us) ≡ and_then (met ts) (met us)
+unfolding met ite
+met-append [] us = refl
+met-append (t ∷ ts) us = go t.given (met-append ts us)
+  where
+    go : (b : Bool) → met (ts ++ us) ≡ and_then (met ts) (met us) → ite b (Err t.refusal) (met (ts ++ us)) ≡ and_then (ite b (Err t.refusal) (met ts)) (met us)
+    go true e = refl
+    go false e = e
+
+-- by which the check itself follows trials that are tried one after the other
+pub ruleset in_turn = (met-cons, met-append)

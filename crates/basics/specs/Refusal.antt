@@ -49,7 +49,12 @@ unfoldable pub met : List Trial → Result Unit Refusal
 met [] = Ok tt
 met (t ∷ ts) = ite t.given (Err t.refusal) (met ts)
 
--- x where nothing is met, and else what the refusal makes
-unfoldable pub unless {ℓ} : {A : Type ℓ} → Result Unit Refusal → A → (Refusal → A) → A
-unless (Ok u) x f = x
+-- x where nothing is refused, and else what the refusal makes
+unfoldable pub unless {ℓ} : {A : Type ℓ} {B : Type 0} → Result B Refusal → A → (Refusal → A) → A
+unless (Ok b) x f = x
 unless (Err r) x f = f r
+
+-- what comes next where nothing is met, and else the refusal
+abbrev pub and_then : {A : Type 0} → Result Unit Refusal → Result A Refusal → Result A Refusal
+and_then (Ok u) m = m
+and_then (Err r) m = Err r

@@ -1,6 +1,6 @@
 // Why a call is refused: the description's list of refusals.
-ghost use Rattle.std.specs.Prelude.{◌≡◌, ◌≤◌};
-ghost use Rattle.basics.specs.Refusal.{number_of};
+ghost use Rattle.std.specs.Prelude.{◌≡◌, ◌≤◌, [], ◌∷◌};
+ghost use Rattle.basics.specs.Refusal.{number_of, refuse, met};
 
 use std::error::Error;
 use std::fmt;
@@ -33,6 +33,13 @@ impl Refusal {
         ensures most { result ≤ 17 }
     {
         self as u8
+    }
+
+    // One trial: this refusal where the test comes out true.
+    pub fn when(self, given: bool) -> Result<(), Refusal>
+        ensures { result ≡ met (refuse self given ∷ []) }
+    {
+        if given { Err(self) } else { Ok(()) }
     }
 }
 

@@ -2,11 +2,11 @@
 // standard error.
 #![tactic(auto)]
 
-ghost use Rattle.std.specs.Prelude.{◌≡◌, length, take};
+ghost use Rattle.std.specs.Prelude.{◌≡◌, length, take, IfOk};
 ghost use Rattle.bench.specs.Counts.{IsPrefixLen};
 ghost use Rattle.listing.specs.Listing.{listing_of};
 
-use std::io::{Read, Write};
+use std::io::{self, Read, Write};
 
 // One byte more than a schedule may have, so that a longer one is known.
 fn input_area() -> [u8; 65537]
@@ -22,38 +22,20 @@ fn output_area() -> [u8; 2799452]
     [0; 2799452]
 }
 
-// What reading came to: whether all of it was read, and how many bytes stand at the front of the area.
-#[derive(Clone, Copy)]
-struct Input {
-    whole: bool,
-    length: usize,
-}
-
-// Reads until the area is full or the input ends, in chunks of any length; a read that fails is no end.
-fn read_input<R: Read>(from: &mut R, area: &mut [u8]) -> Input
-    ensures { IsPrefixLen result.length area.new }
+// Reads until the area is full or the input ends, in chunks of any length; a read that fails is no end. The answer is how many
+// bytes stand at the front of the area.
+fn read_input<R: Read>(from: &mut R, area: &mut [u8]) -> io::Result<usize>
+    ensures { IfOk result (λ n. IsPrefixLen n area.new) }
 {
     let mut done = 0;
     while done < area.len() {
-        match from.read(&mut area[done..]) {
-            Err(_) => {
-                return Input {
-                    whole: false,
-                    length: 0,
-                };
-            }
-            Ok(more) => {
-                if more == 0 {
-                    break;
-                }
-                done += more;
-            }
+        let more = from.read(&mut area[done..])?;
+        if more == 0 {
+            break;
         }
+        done += more;
     }
-    Input {
-        whole: true,
-        length: done,
-    }
+    Ok(done)
 }
 
 // Lays the listing at the front of the area, and answers its length.
@@ -78,13 +60,11 @@ fn print_listing(rt: HostRuntime, schedule: &[u8]) {
 
 fn main(rt: HostRuntime) {
     let mut area = input_area();
-    let input = read_input(&mut rt.stdin(), &mut area);
-    if !input.whole {
+    let Ok(length) = read_input(&mut rt.stdin(), &mut area) else {
         let _ = rt
             .stderr()
             .write_all(b"bench: standard input cannot be read\n");
         return;
-    }
-    let length = input.length;
+    };
     print_listing(rt, &area[..length]);
 }

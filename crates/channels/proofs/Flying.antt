@@ -6,9 +6,9 @@ use Prim.Native.Nat.{ℕ, zero, suc, ◌+◌, ◌≤◌, ◌<◌}
 use native.Mathlib.{Decide.{ℕ_discrete, dec_lt}, Omega.arith}
 use lib.Dec.{ltb, eqb}
 use borrow.Author.Tests.{ltb-true, lt-ltb, not-true}
-use Rattle.basics.{proofs.Choices.{clash, ite-case}, proofs.Ones.{one_same, nought-apart}, specs.Below.one_if, specs.Choice.ite}
+use Rattle.basics.{proofs.Choices.{clash, ite-case, ite-true, ite-false}, proofs.Ones.{one_same, nought-apart}, specs.Below.one_if, specs.Choice.ite}
 use Rattle.channels.specs.{Channels.{by_kind, no_channel, in_flight, has, room, joined, less}, declared.Channel.Channel}
-use Rattle.channels.proofs.ByKind.{at_read, at-proceed, at_other, not_at, but-write0, but-write1, but-read, but-proceed, kind-case}
+use Rattle.channels.proofs.ByKind.{by_kind-pick, at_read, at-proceed, at_other, not_at, but-write0, but-write1, but-read, but-proceed, kind-case}
 
 -- ---- what the code tests
 
@@ -16,6 +16,12 @@ pub one-there : (b : Bool) → ltb 0 (one_if b) ≡ b
 unfolding one_if
 one-there true = refl
 one-there false = refl
+
+-- what a match on the kind finds
+pub ruleset kinds = (by_kind-pick, one-there)
+
+-- and where there is room or none
+pub ruleset joining = (by_kind-pick, ite-true, ite-false, ltb-true)
 
 pub room-known : (c : Channel) (k : ℕ) → room c k ≡ true → k < 4
 unfolding room

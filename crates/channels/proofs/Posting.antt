@@ -1,12 +1,13 @@
 -- The laws of posting one message, and of messages behind messages: by these the code goes.
 -- Assumes nothing.
 use mathlib.Core.{Bool.{Bool, true, false}, List.{List, [], ◌∷◌, ◌++◌}, Logic.◌↔◌, Path.{◌≡◌, refl, sym, ap, ◌∙◌}}
-use Prim.Native.Nat.{◌-◌, ◌≤◌}
+use Prim.Native.Nat.{◌-◌, ◌≤◌, ◌<◌}
 use lib.Dec.{leb}
-use borrow.Author.Tests.{leb-true, le-leb}
+use borrow.Author.Tests.{leb-true, le-leb, lt-leb}
 use Rattle.basics.proofs.Choices.{clash, ite-true, ite-false, ite-case, both_left, both_right, both_true, both-false-left, both-false-right}
-use Rattle.basics.specs.Choice.{both}
-use Rattle.messages.specs.Sends.{Message}
+use Rattle.basics.specs.Choice.{ite, both}
+use Rattle.std.specs.Prelude.{None, Some}
+use Rattle.messages.{proofs.Messages.{below_none, below-marked, below-unmarked, proceeds-none, proceeds-next}, specs.Sends.Message}
 use Rattle.channels.specs.{Channels.{channel_at, room, joined}, Posting.{posted, fits_in, post, posts, with_channel}}
 use Rattle.channels.specs.declared.{Posted.Posted, Row.Row}
 
@@ -35,6 +36,13 @@ module _ (r : Row) (m : Message) where
   unfolding fits_in
   outside e = both-false-left _ e
 
+  -- there are no such panels
+  pub too-low : m.to < 1 → fits_in r m ≡ false
+  too-low h = outside (both-false-left _ (lt-leb _ _ h))
+
+  pub too-high : 7 < m.to → fits_in r m ≡ false
+  too-high h = outside (both-false-right _ (lt-leb _ _ h))
+
   pub no_room : room (channel_at r (m.to - 1)) m.kind ≡ false → fits_in r m ≡ false
   unfolding fits_in
   no_room e = both-false-right _ e
@@ -42,6 +50,23 @@ module _ (r : Row) (m : Message) where
   pub fits_in_lem : both (leb 1 m.to) (leb m.to 7) ≡ true → room (channel_at r (m.to - 1)) m.kind ≡ true → fits_in r m ≡ true
   unfolding fits_in
   fits_in_lem e f = both_true e f
+
+-- the row where the message fits, and none where not
+some-of : {A : Type 0} {x y : A} (b : Bool) → ite b (Some x) None ≡ Some y → (b ≡ true) × (x ≡ y)
+unfolding ite
+some-of true e = (refl, cc)
+some-of false e = cc
+
+pub chosen : {A : Type 0} {x y : A} {b : Bool} → ite b (Some x) None ≡ Some y → (b ≡ true) × (x ≡ y)
+chosen {b = b} e = some-of b e
+
+none-of : {A : Type 0} (x : A) (b : Bool) → ite b (Some x) None ≡ None → b ≡ false
+unfolding ite
+none-of x true e = cc
+none-of x false e = refl
+
+pub none-chosen : {A : Type 0} (x : A) {b : Bool} → ite b (Some x) None ≡ None → b ≡ false
+none-chosen x {b = b} e = none-of x b e
 
 pub record Fits (r : Row) (m : Message) : Type 0 where
   pub low : 1 ≤ m.to
@@ -82,6 +107,12 @@ pub posts-append : (s : Posted) (ms ns : List Message) → posts s (ms ++ ns) �
 unfolding posts
 posts-append s [] ns = refl
 posts-append s (m ∷ ms) ns = posts-append (post s m) ms ns
+
+-- how a loop over messages goes on
+pub ruleset posting = (posts-none, posts-one, posts-append, below_none, below-marked, below-unmarked, proceeds-none, proceeds-next)
+
+-- and where one message is put
+pub ruleset one = (ite-true, ite-false, chosen, none-chosen)
 
 pub posts-stuck : (s : Posted) (ms : List Message) → s.fits ≡ false → posts s ms ≡ s
 unfolding posts

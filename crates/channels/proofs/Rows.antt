@@ -1,10 +1,11 @@
 -- The laws of a row: what stands at a place after a channel was put there or elsewhere, and that a row keeps its seven places.
 -- Assumes nothing.
-use mathlib.Core.{Bool.true, List.{List, [], ◌∷◌}, Logic.◌≢◌, Path.{◌≡◌, refl, sym, ap, subst, ◌∙◌}}
+use mathlib.Core.{Bool.{Bool, true}, List.{List, [], ◌∷◌}, Logic.◌≢◌, Path.{◌≡◌, refl, sym, ap, subst, ◌∙◌}}
 use Prim.Native.Nat.{ℕ, ◌-◌, ◌≤◌, ◌<◌}
 use native.Mathlib.{Decide.ℕ_discrete, Omega.arith}
 use lib.{ListN.{length, length-set, get_or-eq_default, length-replicate}, Seq.{get_or-set_same, get_or-set_other, set_out}}
 use Rattle.basics.proofs.Lists.{get_or-same}
+use Rattle.basics.{proofs.Below.all-next, specs.Below.all_below}
 use Rattle.messages.specs.{Sends.{Message, messages_of}, declared.Sends.Sends}
 use Rattle.channels.specs.Channels.{channel_at, no_channel, less, empty_row}
 use Rattle.channels.specs.{Posting.{with_channel, posted, post, posts, posted_all, taken}, declared.Channel.Channel}
@@ -77,3 +78,13 @@ length-posts s (m ∷ ms) = length-posts (post s m) ms ∙ length-post s m
 pub length-posted : (r : Row) (sends : Sends) → length (posted_all r sends).row.to ≡ length r.to
 unfolding posted_all
 length-posted r sends = length-posts (posted true r) (messages_of sends)
+
+-- where a channel is put
+pub ruleset putting = (put-past)
+
+pub all-none : (f : ℕ → Bool) → all_below 0 f ≡ true
+unfolding all_below
+all-none f = refl
+
+-- where the places are tested in turn
+pub ruleset testing = (all-none, all-next)

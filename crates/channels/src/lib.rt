@@ -1,18 +1,18 @@
 // The channels that leave one panel, and how what an event sends joins them. Every call here takes any channels and any numbers.
 #![tactic(auto)]
 
-ghost use Rattle.std.specs.Prelude.{◌≡◌, [], ◌∷◌, ◌-◌, ◌<◌};
+ghost use Rattle.std.specs.Prelude.{◌≡◌, ◌-◌, Some, None};
 ghost use Rattle.basics.specs.Choice.{ite};
 ghost use Rattle.messages.specs.Sends.{cast_of, proceeds_to};
 ghost use Rattle.channels.specs.Channels.{has, value_in, room, joined, less, slot_ok, channel_ok, channel_empty, row_ok, empty_row, channel_at, no_channel};
-ghost use Rattle.channels.specs.Posting.{post, posts, posted_all, with_channel, taken};
+ghost use Rattle.channels.specs.Posting.{fits_in, post, posts, posted_all, with_channel, taken};
 
-use basics::{both, choose, wide};
+use basics::{Kind, both, choose};
 use messages::{Cast, Sends};
 use tables::Hold;
 
 // One ordered pair's channel: a WRITE of each bit or none, and how many READs and PROCEEDs are in flight.
-#[derive(Clone, Copy)]
+#[derive(Clone, Copy, Debug, PartialEq, Eq)]
 pub struct Channel {
     pub write0: Hold,
     pub write1: Hold,
@@ -21,75 +21,70 @@ pub struct Channel {
 }
 
 // The channels that leave one panel; place 0 is panel 1.
-#[derive(Clone, Copy)]
+#[derive(Clone, Copy, Debug, PartialEq, Eq)]
 pub struct Row {
     pub to: [Channel; 7],
 }
 
-// A row, and whether all messages so far found room.
-#[derive(Clone, Copy)]
+// A row, and whether all messages so far found room: where one did not, the row as it was filled up to there. The flag stands beside
+// the row, and not in an Err, since a network promises its row as far as it was filled too.
+#[derive(Clone, Copy, Debug, PartialEq, Eq)]
 pub struct Posted {
     pub fits: bool,
     pub row: Row,
 }
 
-fn one_less(x: u8) -> u8
-    ensures { result ≡ x - 1 }
-{
-    if x == 0 { 0 } else { x - 1 }
+impl Channel {
+    // Nothing is in flight.
+    const EMPTY: Channel = Channel {
+        write0: Hold::EMPTY,
+        write1: Hold::EMPTY,
+        reads: 0,
+        proceeds: 0,
+    };
 }
 
 // ---- one channel
 
+#[tactic(auto, using(crate::proofs::Flying::kinds), unfolding(crate::specs::Channels::has, crate::specs::Channels::in_flight))]
 pub fn has(c: Channel, kind: u8) -> bool
     ensures { result ≡ has c kind }
 {
-    if kind == 0 {
-        return c.write0.full;
+    match Kind::try_from(kind) {
+        Ok(Kind::Write0) => c.write0.full,
+        Ok(Kind::Write1) => c.write1.full,
+        Ok(Kind::Read) => 0 < c.reads,
+        Ok(Kind::Proceed) => 0 < c.proceeds,
+        Err(_) => false,
     }
-    if kind == 1 {
-        return c.write1.full;
-    }
-    if kind == 2 {
-        return 0 < c.reads;
-    }
-    if kind == 3 {
-        return 0 < c.proceeds;
-    }
-    false
 }
 
+#[tactic(auto, using(crate::proofs::Flying::kinds), unfolding(crate::specs::Channels::value_in))]
 pub fn value_in(c: Channel, kind: u8) -> u32
     ensures { result ≡ value_in c kind }
 {
-    if kind == 0 {
-        return c.write0.value;
+    match Kind::try_from(kind) {
+        Ok(Kind::Write0) => c.write0.value,
+        Ok(Kind::Write1) => c.write1.value,
+        _ => 0,
     }
-    if kind == 1 {
-        return c.write1.value;
-    }
-    0
 }
 
+#[tactic(auto, using(crate::proofs::Flying::kinds), unfolding(crate::specs::Channels::room))]
 pub fn room(c: Channel, kind: u8) -> bool
     ensures { result ≡ room c kind }
 {
-    if kind == 0 {
-        return !c.write0.full;
+    match Kind::try_from(kind) {
+        Ok(Kind::Write0) => !c.write0.full,
+        Ok(Kind::Write1) => !c.write1.full,
+        Ok(Kind::Read) => c.reads < 100,
+        Ok(Kind::Proceed) => c.proceeds < 100,
+        Err(_) => false,
     }
-    if kind == 1 {
-        return !c.write1.full;
-    }
-    if kind == 2 {
-        return c.reads < 100;
-    }
-    if kind == 3 {
-        return c.proceeds < 100;
-    }
-    false
 }
 
 // With one more of a kind, where there is room for it.
+#[tactic(auto, using(crate::proofs::Flying::joining), unfolding(crate::specs::Channels::joined, crate::specs::Channels::room))]
 pub fn joined(c: Channel, kind: u8, v: u32) -> Channel
     ensures { result ≡ joined c kind v }
 {
@@ -100,59 +95,57 @@ pub fn joined(c: Channel, kind: u8, v: u32) -> Channel
         full: true,
         value: v,
     };
-    let mut d = c;
-    if kind == 0 {
-        d.write0 = write;
-        return d;
+    match Kind::try_from(kind) {
+        Ok(Kind::Write0) => Channel { write0: write, ..c },
+        Ok(Kind::Write1) => Channel { write1: write, ..c },
+        Ok(Kind::Read) => Channel {
+            reads: c.reads + 1,
+            ..c
+        },
+        Ok(Kind::Proceed) => Channel {
+            proceeds: c.proceeds + 1,
+            ..c
+        },
+        Err(_) => c,
     }
-    if kind == 1 {
-        d.write1 = write;
-        return d;
-    }
-    if kind == 2 {
-        d.reads = c.reads + 1;
-        return d;
-    }
-    d.proceeds = c.proceeds + 1;
-    d
 }
 
 // With one fewer of a kind, where there is one.
+#[tactic(auto, using(crate::proofs::Flying::kinds), unfolding(crate::specs::Channels::less))]
 pub fn less(c: Channel, kind: u8) -> Channel
     ensures { result ≡ less c kind }
 {
-    let none = Hold {
-        full: false,
-        value: 0,
-    };
-    let mut d = c;
-    if kind == 0 {
-        d.write0 = none;
-        return d;
+    match Kind::try_from(kind) {
+        Ok(Kind::Write0) => Channel {
+            write0: Hold::EMPTY,
+            ..c
+        },
+        Ok(Kind::Write1) => Channel {
+            write1: Hold::EMPTY,
+            ..c
+        },
+        Ok(Kind::Read) => Channel {
+            reads: c.reads.saturating_sub(1),
+            ..c
+        },
+        Ok(Kind::Proceed) => Channel {
+            proceeds: c.proceeds.saturating_sub(1),
+            ..c
+        },
+        Err(_) => c,
     }
-    if kind == 1 {
-        d.write1 = none;
-        return d;
-    }
-    if kind == 2 {
-        d.reads = one_less(c.reads);
-        return d;
-    }
-    if kind == 3 {
-        d.proceeds = one_less(c.proceeds);
-        return d;
-    }
-    d
 }
 
 // ---- form, without a branch: a network has 49 channels
 
+#[tactic(auto, unfolding(crate::specs::Channels::slot_ok))]
 fn slot_ok(h: Hold) -> bool
     ensures { result ≡ slot_ok h }
 {
     choose(h.full, true, h.value == 0)
 }
 
+#[tactic(auto, unfolding(crate::specs::Channels::channel_ok))]
 pub fn channel_ok(c: Channel) -> bool
     ensures { result ≡ channel_ok c }
 {
@@ -164,6 +157,7 @@ pub fn channel_ok(c: Channel) -> bool
     )
 }
 
+#[tactic(auto, unfolding(crate::specs::Channels::channel_empty))]
 pub fn channel_empty(c: Channel) -> bool
     ensures { result ≡ channel_empty c }
 {
@@ -181,54 +175,38 @@ fn place_ok(used: bool, c: Channel) -> bool
     choose(used, ok, empty)
 }
 
+#[tactic(auto, using(crate::proofs::Rows::testing), unfolding(crate::specs::Channels::row_ok, crate::specs::Channels::row_place_ok, crate::specs::Channels::leads))]
 pub fn row_ok(r: Row, n: u8, i: usize) -> bool
     ensures { result ≡ row_ok r n i }
 {
-    let end = wide(n);
-    let inside = i < end;
+    let end = usize::from(n);
     let mut ok = true;
-    for j in 0..7 {
-        let c = r.to[j];
-        let used = both(inside, both(j < end, i != j));
-        let e = place_ok(used, c);
-        ok = both(ok, e);
+    for (j, c) in r.to.iter().enumerate() {
+        let used = both(i < end, both(j < end, i != j));
+        ok = both(ok, place_ok(used, *c));
     }
     ok
 }
 
 // ---- rows
 
-fn empty_channel() -> Channel
-    ensures { result ≡ no_channel }
-{
-    let full = false;
-    let value = 0;
-    let write = Hold { full, value };
-    Channel {
-        write0: write,
-        write1: write,
-        reads: 0,
-        proceeds: 0,
-    }
-}
-
+#[tactic(auto, unfolding(crate::specs::Channels::empty_row))]
 pub fn empty_row() -> Row
     ensures { result ≡ empty_row }
 {
-    let c = empty_channel();
-    Row { to: [c; 7] }
+    Row {
+        to: [Channel::EMPTY; 7],
+    }
 }
 
 // The channel to a place; past the last an empty one.
 pub fn channel_to(r: Row, j: usize) -> Channel
     ensures { result ≡ channel_at r j }
 {
-    if j < 7 {
-        return r.to[j];
-    }
-    empty_channel()
+    r.to.get(j).copied().unwrap_or(Channel::EMPTY)
 }
 
+#[tactic(auto, using(crate::proofs::Rows::putting), unfolding(crate::specs::Posting::with_channel))]
 fn with_channel(r: Row, j: usize, c: Channel) -> Row
     ensures { result ≡ with_channel r j c }
 {
@@ -240,82 +218,75 @@ fn with_channel(r: Row, j: usize, c: Channel) -> Row
 }
 
 // The row without one message of a kind to a place.
+#[tactic(auto, unfolding(crate::specs::Posting::taken))]
 pub fn taken(r: Row, j: usize, kind: u8) -> Row
     ensures { result ≡ taken r j kind }
 {
-    let c = channel_to(r, j);
-    let d = less(c, kind);
-    with_channel(r, j, d)
+    with_channel(r, j, less(channel_to(r, j), kind))
 }
 
 // ---- what is sent
 
+// The row with one message more, where it finds room.
+fn put(row: Row, to: u8, kind: u8, v: u32) -> Option<Row>
+    ensures { result ≡ ite (fits_in row (record { to = to; kind = kind; value = v })) (Some (with_channel row (to - 1) (joined (channel_at row (to - 1)) kind v))) None }
+{
+    let at = usize::from(to).checked_sub(1)?;
+    let c = row.to.get(at).copied()?;
+    if !room(c, kind) {
+        return None;
+    }
+    Some(with_channel(row, at, joined(c, kind, v)))
+}
+
+#[tactic(auto, using(crate::proofs::Posting::one), unfolding(crate::specs::Posting::post))]
 fn post_one(s: Posted, to: u8, kind: u8, v: u32) -> Posted
     ensures { result ≡ post s (record { to = to; kind = kind; value = v }) }
 {
     if !s.fits {
         return s;
     }
-    let row = s.row;
-    if !both(1 <= to, to <= 7) {
-        return Posted { fits: false, row };
-    }
-    let at = wide(to) - 1;
-    let c = channel_to(row, at);
-    if !room(c, kind) {
-        return Posted { fits: false, row };
-    }
-    let d = joined(c, kind, v);
-    let next = with_channel(row, at, d);
-    Posted {
-        fits: true,
-        row: next,
+    match put(s.row, to, kind, v) {
+        Some(row) => Posted { fits: true, row },
+        None => Posted {
+            fits: false,
+            row: s.row,
+        },
     }
 }
 
-// One message where b holds.
-fn post_if(b: bool, s: Posted, to: u8, kind: u8, v: u32) -> Posted
-    ensures { result ≡ posts s (ite b (record { to = to; kind = kind; value = v } ∷ []) []) }
-{
-    if b {
-        return post_one(s, to, kind, v);
-    }
-    s
-}
-
+#[tactic(auto, using(crate::proofs::Posting::posting), unfolding(messages::specs::Sends::cast_of))]
 fn post_cast(s: Posted, c: Cast) -> Posted
     ensures { result ≡ posts s (cast_of c) }
 {
-    let to = c.to;
     let mut p = s;
-    let mut j = 0;
-    while j < 7 {
-        p = post_if(to[j], p, (j + 1) as u8, c.kind, c.value);
-        j += 1;
+    for (j, marked) in c.to.iter().enumerate() {
+        if *marked {
+            p = post_one(p, (j + 1) as u8, c.kind, c.value);
+        }
     }
     p
 }
 
+#[tactic(auto, using(crate::proofs::Posting::posting))]
 fn post_proceeds(s: Posted, peer: u8, m: u8) -> Posted
     ensures { result ≡ posts s (proceeds_to m peer) }
 {
+    let kind = Kind::Proceed.byte();
     let mut p = s;
-    let mut i = 0;
-    while i < m {
-        p = post_one(p, peer, 3, 0);
-        i += 1;
+    for _ in 0..m {
+        p = post_one(p, peer, kind, 0);
     }
     p
 }
 
 // All that one event sends, in its order.
+#[tactic(auto, using(crate::proofs::Posting::posting), unfolding(crate::specs::Posting::posted_all, messages::specs::Sends::messages_of))]
 pub fn post_all(r: Row, s: Sends) -> Posted
     ensures { result ≡ posted_all r s }
 {
-    let own = s.own;
-    let held = s.held;
     let start = Posted { fits: true, row: r };
-    let a = post_cast(start, own);
-    let b = post_cast(a, held);
+    let a = post_cast(start, s.own);
+    let b = post_cast(a, s.held);
     post_proceeds(b, s.peer, s.proceeds)
 }

@@ -7,6 +7,7 @@ use Rattle.basics.specs.Below.{one_if}
 use Rattle.panel.specs.declared.Panel.{Panel}
 use Rattle.channels.specs.{Channels.{no_row, channel_at}, declared.Channel.Channel, declared.Row.Row}
 use Rattle.house.specs.{Places.nobody, declared.Network.Network}
+pub use Rattle.carried.proofs.Rows.{rows_start, rows_end}
 use Rattle.carried.{proofs.Lengths.{length-hold, length-panel}, proofs.Rows.length-rows, specs.Panels.panel_bytes}
 use Rattle.conveyed.specs.Networks.{members_bytes, down_bytes, channel_bytes, row_bytes, rows_bytes, network_bytes}
 
@@ -30,3 +31,6 @@ pub length-network : (s : Network) → length (network_bytes s) ≡ 11557
 unfolding network_bytes rows_bytes
 length-network s =
     simp (length-append, length-members, length-down, length-rows 84 (λ (i : ℕ). row_bytes (get_or s.rows i no_row)) (λ k. length-row _) 7)
+
+-- by which a loop that writes row by row begins and ends
+pub ruleset rows = (rows_start, rows_end)

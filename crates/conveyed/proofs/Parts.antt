@@ -44,3 +44,5 @@ drop-within (b ∷ l) (suc i) = ap (λ (n : ℕ). drop n (b ∷ l)) (suc-min-suc
 -- from a place on, or from the end where the place is past it
 pub part-within : (l : List ℕ) (i k : ℕ) → k ≡ min i (length l) → take (length l - k) (drop k l) ≡ drop i l
 part-within l i k e = part-behind l k ∙ ap (λ (n : ℕ). drop n l) e ∙ drop-within l i
+
+pub ruleset parts = (part-laid, past-laid, part-within)

@@ -2,7 +2,7 @@
 // flags behind. Any bytes are taken: a byte past the end reads as 0, and is not written.
 #![tactic(auto)]
 
-ghost use Rattle.std.specs.Prelude.{◌≡◌, ℕ, ◌+◌, ◌*◌, ◌<◌, min, [], ◌∷◌};
+ghost use Rattle.std.specs.Prelude.{◌≡◌, ℕ, ◌+◌, ◌*◌, ◌<◌, [], ◌∷◌};
 ghost use lib.Seq.{sets};
 ghost use Rattle.basics.specs.Below.{one_if, list_below};
 ghost use Rattle.carried.specs.Laid.{Laid};
@@ -13,20 +13,16 @@ use basics::byte_if;
 use channels::{Channel, Row};
 use house::Network;
 use panel::Panel;
+use std::array;
 use tables::Hold;
 
 // ---- out of bytes
 
-fn within(at: usize, end: usize) -> usize
-    ensures { result ≡ min at end }
-{
-    if at < end { at } else { end }
-}
-
+#[tactic(auto, using(crate::proofs::Parts::parts), unfolding(crate::specs::Networks::member_from))]
 fn member_from(bytes: &[u8], at: usize) -> Panel
     ensures { result ≡ member_from bytes.now at }
 {
-    let from = within(at, bytes.len());
+    let from = at.min(bytes.len());
     Panel {
         tables: carried::panel_from(&bytes[from..]),
     }
@@ -35,14 +31,10 @@ fn member_from(bytes: &[u8], at: usize) -> Panel
 fn members_from(bytes: &[u8]) -> [Panel; 7]
     ensures { result ≡ list_below 7 (λ (i : ℕ). member_from bytes.now (1566 * i)) }
 {
-    let none = member_from(bytes, 0);
-    let mut panels = [none; 7];
-    for i in 0..7 {
-        panels[i] = member_from(bytes, 1566 * i);
-    }
-    panels
+    array::from_fn(|i| member_from(bytes, 1566 * i))
 }
 
+#[tactic(auto, unfolding(crate::specs::Networks::flag_from))]
 fn flag_from(bytes: &[u8], at: usize) -> bool
     ensures { result ≡ flag_from bytes.now at }
 {
@@ -52,13 +44,10 @@ fn flag_from(bytes: &[u8], at: usize) -> bool
 fn down_from(bytes: &[u8]) -> [bool; 7]
     ensures { result ≡ list_below 7 (λ (i : ℕ). flag_from bytes.now (10962 + i)) }
 {
-    let mut down = [false; 7];
-    for i in 0..7 {
-        down[i] = flag_from(bytes, 10962 + i);
-    }
-    down
+    array::from_fn(|i| flag_from(bytes, 10962 + i))
 }
 
+#[tactic(auto, unfolding(carried::specs::Panels::hold_from))]
 fn hold_from(bytes: &[u8], at: usize) -> Hold
     requires { at < 12000 }
     ensures { result ≡ hold_from bytes.now at }
@@ -71,19 +60,16 @@ fn hold_from(bytes: &[u8], at: usize) -> Hold
     }
 }
 
+#[tactic(auto, unfolding(crate::specs::Networks::channel_from))]
 fn channel_from(bytes: &[u8], at: usize) -> Channel
     requires { at < 11900 }
     ensures { result ≡ channel_from bytes.now at }
 {
-    let write0 = hold_from(bytes, at);
-    let write1 = hold_from(bytes, at + 5);
-    let reads = codec::byte_at(bytes, at + 10);
-    let proceeds = codec::byte_at(bytes, at + 11);
     Channel {
-        write0,
-        write1,
-        reads,
-        proceeds,
+        write0: hold_from(bytes, at),
+        write1: hold_from(bytes, at + 5),
+        reads: codec::byte_at(bytes, at + 10),
+        proceeds: codec::byte_at(bytes, at + 11),
     }
 }
 
@@ -91,50 +77,45 @@ fn row_from(bytes: &[u8], at: usize) -> Row
     requires { at < 11800 }
     ensures { result ≡ row_from bytes.now at }
 {
-    let none = channel_from(bytes, at);
-    let mut to = [none; 7];
-    for j in 0..7 {
-        to[j] = channel_from(bytes, at + 12 * j);
+    Row {
+        to: array::from_fn(|j| channel_from(bytes, at + 12 * j)),
     }
-    Row { to }
 }
 
 fn rows_from(bytes: &[u8]) -> [Row; 7]
     ensures { result ≡ list_below 7 (λ (i : ℕ). row_from bytes.now (10969 + 84 * i)) }
 {
-    let none = row_from(bytes, 10969);
-    let mut rows = [none; 7];
-    for i in 0..7 {
-        rows[i] = row_from(bytes, 10969 + 84 * i);
-    }
-    rows
+    array::from_fn(|i| row_from(bytes, 10969 + 84 * i))
 }
 
+#[tactic(auto, unfolding(crate::specs::Networks::network_from))]
 pub fn network_from(bytes: &[u8]) -> Network
     ensures { result ≡ network_from bytes.now }
 {
-    let panels = members_from(bytes);
-    let rows = rows_from(bytes);
-    let down = down_from(bytes);
-    Network { panels, rows, down }
+    Network {
+        panels: members_from(bytes),
+        rows: rows_from(bytes),
+        down: down_from(bytes),
+    }
 }
 
 // ---- into bytes
 
+#[tactic(auto, using(crate::proofs::Parts::parts))]
 fn put_member(p: Panel, at: usize, out: &mut [u8])
     ensures { Laid out.old at (panel_bytes p.tables) out.new }
 {
-    let t = p.tables;
     if at < out.len() {
-        carried::panel_into(t, &mut out[at..]);
+        carried::panel_into(p.tables, &mut out[at..]);
     }
 }
 
-fn put_members(ps: [Panel; 7], out: &mut [u8])
-    ensures { Laid out.old 0 (members_bytes ps) out.new }
+#[tactic(auto, using(crate::proofs::Lengths::rows), unfolding(crate::specs::Networks::members_bytes))]
+fn put_members(ps: &[Panel; 7], out: &mut [u8])
+    ensures { Laid out.old 0 (members_bytes ps.now) out.new }
 {
-    for i in 0..7 {
-        put_member(ps[i], 1566 * i, out);
+    for (i, p) in ps.iter().enumerate() {
+        put_member(*p, 1566 * i, out);
     }
 }
 
@@ -144,11 +125,12 @@ fn put_flag(b: bool, at: usize, out: &mut [u8])
     codec::put_byte(out, at, byte_if(b));
 }
 
-fn put_down(down: [bool; 7], out: &mut [u8])
-    ensures { Laid out.old 10962 (down_bytes down) out.new }
+#[tactic(auto, using(crate::proofs::Lengths::rows), unfolding(crate::specs::Networks::down_bytes))]
+fn put_down(down: &[bool; 7], out: &mut [u8])
+    ensures { Laid out.old 10962 (down_bytes down.now) out.new }
 {
-    for i in 0..7 {
-        put_flag(down[i], 10962 + i, out);
+    for (i, d) in down.iter().enumerate() {
+        put_flag(*d, 10962 + i, out);
     }
 }
 
@@ -170,30 +152,29 @@ fn put_channel(c: Channel, at: usize, out: &mut [u8])
     codec::put_byte(out, at + 11, c.proceeds);
 }
 
-fn put_row(r: Row, at: usize, out: &mut [u8])
+#[tactic(auto, using(crate::proofs::Lengths::rows), unfolding(crate::specs::Networks::row_bytes))]
+fn put_row(r: &Row, at: usize, out: &mut [u8])
     requires { at < 11800 }
-    ensures { Laid out.old at (row_bytes r) out.new }
+    ensures { Laid out.old at (row_bytes r.now) out.new }
 {
-    for j in 0..7 {
-        put_channel(r.to[j], at + 12 * j, out);
+    for (j, c) in r.to.iter().enumerate() {
+        put_channel(*c, at + 12 * j, out);
     }
 }
 
-fn put_rows(rs: [Row; 7], out: &mut [u8])
-    ensures { Laid out.old 10969 (rows_bytes rs) out.new }
+#[tactic(auto, using(crate::proofs::Lengths::rows), unfolding(crate::specs::Networks::rows_bytes))]
+fn put_rows(rs: &[Row; 7], out: &mut [u8])
+    ensures { Laid out.old 10969 (rows_bytes rs.now) out.new }
 {
-    for i in 0..7 {
-        put_row(rs[i], 10969 + 84 * i, out);
+    for (i, r) in rs.iter().enumerate() {
+        put_row(r, 10969 + 84 * i, out);
     }
 }
 
 pub fn network_into(s: Network, out: &mut [u8])
     ensures { out.new ≡ sets out.old 0 (network_bytes s) }
 {
-    let panels = s.panels;
-    let down = s.down;
-    let rows = s.rows;
-    put_members(panels, out);
-    put_down(down, out);
-    put_rows(rows, out);
+    put_members(&s.panels, out);
+    put_down(&s.down, out);
+    put_rows(&s.rows, out);
 }

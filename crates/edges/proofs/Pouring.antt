@@ -1,9 +1,9 @@
 -- What is poured into a slice of message structs is, column by column, what the panel's own call lays into three slices
 -- (`parcel-called`), which is what the events of this crate go by.
 -- Assumes nothing.
-use mathlib.Core.{Bool.{Bool, true, false}, List.{List, [], ◌∷◌, map}, Logic.inr, Path.{◌≡◌, refl, sym, ap, subst, ◌∙◌}}
-use Prim.Native.Nat.{ℕ, zero, suc, min, ◌≤◌, ◌<◌}
-use native.Mathlib.{Nat.zero-add, Omega.arith}
+use mathlib.Core.{Bool.{Bool, true, false}, List.{List, [], ◌∷◌, map}, Logic.inr, Path.{◌≡◌, refl, sym, ap, ◌∙◌}}
+use Prim.Native.Nat.{ℕ, zero, suc, ◌+◌, min, ◌≤◌, ◌<◌}
+use native.Mathlib.{Nat.zero-add, Numerals.add-one, Omega.arith}
 use lib.{Dec.ltb, ListN.{length, get_or, set, replicate, length-set, length-map, length-replicate}}
 use lib.Seq.{ext_get_or, get_or-set_same, get_or-set_other}
 use borrow.Author.Tests.{ltb-true, ltb-false}
@@ -12,9 +12,9 @@ use Rattle.messages.specs.Area.{Area, Laid, receivers_of, kinds_of, values_of, l
 use Rattle.messages.specs.{Sends.{Message as Sends-as-Message, messages_of}, declared.Sends.Sends}
 use Rattle.refusals.specs.Refusals.{Event}
 use Rattle.events.specs.{Events.happens, declared.Done.Done}
-use Rattle.panel.specs.{Calls.{told, called}, declared.Panel.Panel}
-use Rattle.edges.specs.{Columns.{columns, blank, columns_of, message_at, poured, parcel_of, Fitting}, declared.Columns.Columns}
-use Rattle.edges.specs.declared.{Message.Message, Parcel.Parcel}
+use Rattle.panel.specs.{Calls.{Called, told, called}, declared.Panel.Panel}
+use Rattle.edges.specs.{Columns.{columns, blank, columns_of, message_at, poured}, declared.Columns.Columns}
+use Rattle.edges.specs.declared.{Message.Message}
 
 -- ---- one column
 
@@ -123,23 +123,25 @@ pub room-is : (ms : List Message) → room_of (columns ms) ≡ length ms
 unfolding room_of columns
 room-is ms = simp length-map (omega arith)
 
-told-poured :
-    (d : Done) (ms : List Message) (g : Parcel) → Fitting (parcel_of d (length ms)) (length ms) g →
-    record { outcome = g.outcome; area = columns (poured g.columns g.placed ms) } ≡ told d (columns ms)
-unfolding parcel_of told
-told-poured d ms g f =
-    ap (λ (x : Parcel). record { outcome = x.outcome; area = columns (poured x.columns x.placed ms) }) f.same
-    ∙ ap (λ (a : Area). record { outcome = (told d blank).outcome; area = a }) (poured-laid d.sends ms _ refl (few f.same f.in_columns))
+pub told-poured :
+    (d : Done) (ms : List Message) (c : Columns) (n : ℕ) → (c ≡ columns_of d.sends) × (c.count ≤ 269) → n ≡ min c.count (length ms) →
+    record { outcome = record { panel = record { tables = d.tables }; answer = d.answer; count = c.count }; area = columns (poured c n ms) } ≡ told d (columns ms)
+unfolding told columns_of
+told-poured d ms c n f e =
+    ap (λ (m : ℕ). at c m) e
+    ∙ ap (λ (x : Columns). at x (min x.count (length ms))) f.0
+    ∙ ap (λ (a : Area). record { outcome = (told d blank).outcome; area = a }) (poured-laid d.sends ms _ refl (omega (arith, f.1, ap (λ (x : Columns). x.count) f.0)))
   where
-    few : g ≡ parcel_of d (length ms) → g.placed ≤ 269 → min (length (messages_of d.sends)) (length ms) ≤ 269
-    few e l = subst (λ (x : Parcel). x.placed ≤ 269) e l
+    at : Columns → ℕ → Called
+    at x m = record { outcome = record { panel = record { tables = d.tables }; answer = d.answer; count = x.count }; area = columns (poured x m ms) }
 
+-- the panel's own call, with as much room as the slice has places
 pub parcel-called :
-    (p : Panel) (e : Event) (ms : List Message) (g : Parcel) → Fitting (parcel_of (happens p.tables (length ms) e) (length ms)) (length ms) g →
-    record { outcome = g.outcome; area = columns (poured g.columns g.placed ms) } ≡ called p e (columns ms)
+    (p : Panel) (e : Event) (ms : List Message) {d : Done} {x : Called} → d ≡ happens p.tables (length ms) e → x ≡ told d (columns ms) →
+    x ≡ called p e (columns ms)
 unfolding called
-parcel-called p e ms g f =
-    told-poured (happens p.tables (length ms) e) ms g f ∙ ap (λ (n : ℕ). told (happens p.tables n e) (columns ms)) (sym (room-is ms))
+parcel-called p e ms h t =
+    t ∙ ap (λ (d : Done). told d (columns ms)) h ∙ ap (λ (n : ℕ). told (happens p.tables n e) (columns ms)) (sym (room-is ms))
 
 -- ---- for the code
 
@@ -153,20 +155,18 @@ columns-laid s l e h = (
   omega (arith, ap (λ (x : Laid). x.count) e, messages-most s),
 )
 
-pub pack-fits :
-    (d : Done) (room : ℕ) (c : Columns) (n : ℕ) → (c ≡ columns_of d.sends) × (c.count ≤ 269) → n ≡ min c.count room →
-    Fitting (parcel_of d room) room (record { columns = c; placed = n; outcome = record { panel = record { tables = d.tables }; answer = d.answer; count = c.count } })
-unfolding parcel_of told columns_of
-pack-fits d room c n f e =
-    record {
-      same =
-          ap (λ (m : ℕ). record { columns = c; placed = m; outcome = record { panel = record { tables = d.tables }; answer = d.answer; count = c.count } }) e
-          ∙ ap
-          (λ (x : Columns). record { columns = x; placed = min x.count room; outcome = record { panel = record { tables = d.tables }; answer = d.answer; count = x.count } })
-          f.0;
-      in_columns = omega (arith, f.1);
-      in_room = omega arith;
-    }
+-- the last of k messages goes to its place, and then the others
+pub pour_step : (c : Columns) (k : ℕ) (ms : List Message) → poured c k (set ms k (message_at c k)) ≡ poured c (k + 1) ms
+unfolding poured
+pour_step c k ms = ap (λ (n : ℕ). poured c n ms) (sym (add-one k))
 
-pub fits-as : (d : Done) {x : Done} (room : ℕ) (g : Parcel) → d ≡ x → Fitting (parcel_of d room) room g → Fitting (parcel_of x room) room g
-fits-as d room g e f = subst (λ (y : Done). Fitting (parcel_of y room) room g) e f
+pub poured-none : (c : Columns) (k : ℕ) (ms : List Message) → k ≤ 0 → poured c k ms ≡ ms
+unfolding poured
+poured-none c zero ms h = refl
+poured-none c (suc k) ms h = absurd (omega arith)
+
+pub ruleset pours = (pour_step, poured-none)
+
+pub ruleset tells = (told-poured)
+
+pub ruleset calls = (parcel-called)

@@ -1,13 +1,11 @@
 -- A lent slice of message structs. Its three columns are the three slices of the panel's message area: an event leaves in the
 -- columns what the panel's own call (panel's Calls, `called`) leaves in the slices, so there is no second set of rules.
 -- Assumes nothing.
-use Rattle.std.specs.Prelude.{ℕ, zero, suc, min, ◌≤◌}
-use mathlib.Core.{List.{List, map}, Path.◌≡◌}
+use Rattle.std.specs.Prelude.{ℕ, zero, suc}
+use mathlib.Core.{List.{List, map}}
 use Rattle.std.specs.Prelude.{length, get_or, set, replicate}
 use Rattle.messages.specs.{Area.{Area, laid_in}, Sends.messages_of, declared.Sends.Sends}
-use Rattle.events.specs.declared.Done.{Done}
-use Rattle.panel.specs.Calls.{told}
-use Rattle.edges.specs.declared.{Columns.Columns, Message.Message, Parcel.Parcel}
+use Rattle.edges.specs.declared.{Columns.Columns, Message.Message}
 
 unfoldable pub columns : List Message → Area
 columns ms = record { receivers = map (λ (m : Message). m.to) ms; kinds = map (λ (m : Message). m.kind) ms; values = map (λ (m : Message). m.value) ms }
@@ -30,13 +28,3 @@ message_at c k = record { to = get_or c.receivers k 0; kind = get_or c.kinds k 0
 unfoldable pub poured : Columns → ℕ → List Message → List Message
 poured c zero ms = ms
 poured c (suc n) ms = poured c n (set ms n (message_at c n))
-
-unfoldable pub parcel_of : Done → ℕ → Parcel
-parcel_of d room =
-    record { columns = columns_of d.sends; placed = min (length (messages_of d.sends)) room; outcome = (told d blank).outcome }
-
--- g is x, and what it places fits both the columns and the room
-pub record Fitting (x : Parcel) (room : ℕ) (g : Parcel) : Type 0 where
-  pub same : g ≡ x
-  pub in_columns : g.placed ≤ 269
-  pub in_room : g.placed ≤ room

@@ -2,13 +2,11 @@
 // take. Each event is what `events` makes of it; its messages are laid into local arrays and poured from there into the slice.
 #![tactic(auto)]
 
-ghost use Rattle.std.specs.Prelude.{◌≡◌, min, ◌≤◌, ◌<◌, length};
+ghost use Rattle.std.specs.Prelude.{◌≡◌, ◌≤◌, ◌<◌, length};
 ghost use Rattle.refusals.specs.Refusals.Event.{write, read, write_from, read_from, proceed_from};
-ghost use Rattle.events.specs.Events.{happens};
-ghost use Rattle.panel.specs.Calls.{called};
-ghost use Rattle.edges.specs.Columns.{columns, columns_of, message_at, poured, parcel_of, Fitting};
+ghost use Rattle.panel.specs.Calls.{called, told};
+ghost use Rattle.edges.specs.Columns.{columns, columns_of, message_at, poured};
 
-use basics::least;
 use events::Done;
 use messages::Sends;
 use panel::{Outcome, Panel};
@@ -29,14 +27,6 @@ struct Columns {
     count: usize,
 }
 
-// What an event gives to an area: the columns, how many of their messages have a place there, and the outcome.
-#[derive(Clone, Copy)]
-struct Parcel {
-    columns: Columns,
-    placed: usize,
-    outcome: Outcome,
-}
-
 fn columns_of(s: Sends) -> Columns
     ensures { (result ≡ columns_of s) × (result.count ≤ 269) }
 {
@@ -52,64 +42,9 @@ fn columns_of(s: Sends) -> Columns
     }
 }
 
-fn pack(d: Done, room: usize) -> Parcel
-    ensures { Fitting (parcel_of d room) room result }
-{
-    let tables = d.tables;
-    let answer = d.answer;
-    let sends = d.sends;
-    let columns = columns_of(sends);
-    let count = columns.count;
-    let outcome = Outcome {
-        panel: Panel { tables },
-        answer,
-        count,
-    };
-    Parcel {
-        columns,
-        placed: least(count, room),
-        outcome,
-    }
-}
-
-fn pack_write(p: Panel, v: u32, room: usize) -> Parcel
-    ensures { Fitting (parcel_of (happens p.tables room (write v)) room) room result }
-{
-    let t = p.tables;
-    pack(events::write_done(t, room, v), room)
-}
-
-fn pack_read(p: Panel, room: usize) -> Parcel
-    ensures { Fitting (parcel_of (happens p.tables room read) room) room result }
-{
-    let t = p.tables;
-    pack(events::read_done(t, room), room)
-}
-
-fn pack_write_from(p: Panel, j: u8, bit: bool, v: u32, room: usize) -> Parcel
-    ensures { Fitting (parcel_of (happens p.tables room (write_from j bit v)) room) room result }
-{
-    let t = p.tables;
-    pack(events::write_from_done(t, room, j, bit, v), room)
-}
-
-fn pack_read_from(p: Panel, j: u8, room: usize) -> Parcel
-    ensures { Fitting (parcel_of (happens p.tables room (read_from j)) room) room result }
-{
-    let t = p.tables;
-    pack(events::read_from_done(t, room, j), room)
-}
-
-fn pack_proceed_from(p: Panel, j: u8, room: usize) -> Parcel
-    ensures { Fitting (parcel_of (happens p.tables room (proceed_from j)) room) room result }
-{
-    let t = p.tables;
-    pack(events::proceed_from_done(t, room, j), room)
-}
-
-fn message_at(c: Columns, k: usize) -> Message
+fn message_at(c: &Columns, k: usize) -> Message
     requires { k < 269 }
-    ensures { result ≡ message_at c k }
+    ensures { result ≡ message_at c.now k }
 {
     Message {
         to: c.receivers[k],
@@ -119,54 +54,65 @@ fn message_at(c: Columns, k: usize) -> Message
 }
 
 // The first n messages go to their places, the last of them first.
-fn pour(c: Columns, n: usize, area: &mut [Message])
+#[tactic(auto, using(crate::proofs::Pouring::pours))]
+fn pour(c: &Columns, n: usize, area: &mut [Message])
     requires { (n ≤ 269) × (n ≤ length area.old) }
-    ensures { area.new ≡ poured c n area.old }
+    ensures { area.new ≡ poured c.now n area.old }
 {
-    let mut k = n;
-    while 0 < k {
-        let j = k - 1;
-        area[j] = message_at(c, j);
-        k = j;
+    for k in (0..n).rev() {
+        area[k] = message_at(c, k);
     }
 }
 
+// What an event came to: its messages go into the area, as many as have a place there.
+#[tactic(auto, using(crate::proofs::Pouring::tells))]
+fn tell(d: Done, area: &mut [Message]) -> Outcome
+    ensures { record { outcome = result; area = columns area.new } ≡ told d (columns area.old) }
+{
+    let columns = columns_of(d.sends);
+    let count = columns.count;
+    pour(&columns, count.min(area.len()), area);
+    Outcome {
+        panel: Panel { tables: d.tables },
+        answer: d.answer,
+        count,
+    }
+}
+
+#[tactic(auto, using(crate::proofs::Pouring::calls))]
 pub fn write(p: Panel, v: u32, area: &mut [Message]) -> Outcome
     ensures { record { outcome = result; area = columns area.new } ≡ called p (write v) (columns area.old) }
 {
-    let g = pack_write(p, v, area.len());
-    pour(g.columns, g.placed, area);
-    g.outcome
+    tell(events::write_done(p.tables, area.len(), v), area)
 }
 
+#[tactic(auto, using(crate::proofs::Pouring::calls))]
 pub fn read(p: Panel, area: &mut [Message]) -> Outcome
     ensures { record { outcome = result; area = columns area.new } ≡ called p read (columns area.old) }
 {
-    let g = pack_read(p, area.len());
-    pour(g.columns, g.placed, area);
-    g.outcome
+    tell(events::read_done(p.tables, area.len()), area)
 }
 
+#[tactic(auto, using(crate::proofs::Pouring::calls))]
 pub fn write_from(p: Panel, j: u8, bit: bool, v: u32, area: &mut [Message]) -> Outcome
     ensures { record { outcome = result; area = columns area.new } ≡ called p (write_from j bit v) (columns area.old) }
 {
-    let g = pack_write_from(p, j, bit, v, area.len());
-    pour(g.columns, g.placed, area);
-    g.outcome
+    tell(
+        events::write_from_done(p.tables, area.len(), j, bit, v),
+        area,
+    )
 }
 
+#[tactic(auto, using(crate::proofs::Pouring::calls))]
 pub fn read_from(p: Panel, j: u8, area: &mut [Message]) -> Outcome
     ensures { record { outcome = result; area = columns area.new } ≡ called p (read_from j) (columns area.old) }
 {
-    let g = pack_read_from(p, j, area.len());
-    pour(g.columns, g.placed, area);
-    g.outcome
+    tell(events::read_from_done(p.tables, area.len(), j), area)
 }
 
+#[tactic(auto, using(crate::proofs::Pouring::calls))]
 pub fn proceed_from(p: Panel, j: u8, area: &mut [Message]) -> Outcome
     ensures { record { outcome = result; area = columns area.new } ≡ called p (proceed_from j) (columns area.old) }
 {
-    let g = pack_proceed_from(p, j, area.len());
-    pour(g.columns, g.placed, area);
-    g.outcome
+    tell(events::proceed_from_done(p.tables, area.len(), j), area)
 }

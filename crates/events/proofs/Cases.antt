@@ -4,22 +4,23 @@
 -- Assumes nothing.
 use Prim.Native.Nat.{ℕ}
 use mathlib.Core.{Bool.{true, false}, List.{List, [], ◌∷◌, ◌++◌}, Path.{◌≡◌, refl}}
-use Rattle.basics.specs.{Below.{one_if, all_below, count_below, list_below}, Choice.{ite, both}, Refusal.first_of}
+use Rattle.std.specs.Prelude.{Ok, Err, Some, None}
+use Rattle.basics.specs.{Below.{one_if, all_below, count_below, list_below}, Choice.{ite, both}, Refusal.{number_of, met, unless}}
 use Rattle.messages.specs.Sends.{Message, cast_below, cast_of, proceeds_to, messages_of, no_cast, no_sends}
 use Rattle.tables.specs.{Form.{entry_ok, line_ok, hold_ok, quiet_ok, unknown_ok, history_ok}, Lines.{joined, leading, leaving, without}}
 use Rattle.tables.specs.{Marks.{has_w, reaches_w, has_r, among, marks, enough, is_other, only_place}, Places.{w_at, line_at}}
-use Rattle.events.specs.{Events.{rule, refused_by, looked_at, happens}, Look.{look_writing, look_second, look_first, look_as, look}}
+use Rattle.events.specs.{Events.{Answer, rule, refused_by, looked_at, happens}, Look.{look_writing, look_second, look_first, look_as, look}}
 use Rattle.events.specs.Rules.{value_of, learned, spread, write_rule, read_rule, reached, take, take_held, released, take_rule, hold_rule, read_from_rule, proceed_rule}
-use Rattle.events.specs.declared.{Answer.Answer, Answer.TheVariants.{Refused, Nothing, Wrote, Gave}, Done.Done}
-use Rattle.form.specs.{Form.{fits, is_panel, at_writer, place_with, place_ok, operation_ok, in_form, empty_line, fresh}, declared.Tables.Tables}
-use Rattle.refusals.specs.Refusals.{Event, is_peer, is_idle, right_bit, too_high, stray, line_full, first_trials, peer_trials, write_trials, read_trials, write_from_trials, read_from_trials, proceed_from_trials, trials, refusal}
+use Rattle.events.specs.declared.{Finished.TheVariants.{Wrote, Gave}, Done.Done}
+use Rattle.form.specs.{Form.{fits, is_panel, at_writer, place_with, place_ok, operation_ok, in_form, empty_line, fresh, idle}, declared.Tables.Tables}
+use Rattle.refusals.specs.Refusals.{Event, is_peer, right_bit, too_high, stray, line_full, first_trials, peer_trials, write_trials, read_trials, write_from_trials, read_from_trials, proceed_from_trials, trials}
 use Rattle.refusals.specs.Refusals.Event.{write, read, write_from, read_from, proceed_from}
 
 answered : Answer → List ℕ
-answered (Refused k) = 0 ∷ k ∷ []
-answered Nothing = 1 ∷ []
-answered (Wrote x) = 2 ∷ x.0 ∷ []
-answered (Gave x v) = 3 ∷ x.0 ∷ v ∷ []
+answered (Err r) = 0 ∷ number_of r ∷ []
+answered (Ok None) = 1 ∷ []
+answered (Ok (Some (Wrote x))) = 2 ∷ x.0 ∷ []
+answered (Ok (Some (Gave x v))) = 3 ∷ x.0 ∷ v ∷ []
 
 flat : List Message → List ℕ
 flat [] = []
@@ -40,7 +41,7 @@ after : ℕ → ℕ → ℕ → ℕ → List Event → Event → List ℕ
 after n t w i es e = said (happens (run (fresh n t w i 700) es) 107 e)
 
 values : List (List ℕ)
-unfolding answered flat said run waiting after ite both one_if all_below count_below list_below first_of cast_below cast_of proceeds_to messages_of no_cast no_sends has_w reaches_w has_r among marks enough is_other only_place entry_ok line_ok hold_ok quiet_ok unknown_ok history_ok joined leading leaving without fits is_panel place_with at_writer place_ok operation_ok in_form empty_line fresh value_of learned spread write_rule read_rule reached take take_held released take_rule hold_rule read_from_rule proceed_rule look_writing look_second look_first look_as look is_peer is_idle right_bit too_high stray line_full first_trials peer_trials write_trials read_trials write_from_trials read_from_trials proceed_from_trials trials refusal rule refused_by looked_at happens
+unfolding answered flat said run waiting after ite both one_if all_below count_below list_below met unless cast_below cast_of proceeds_to messages_of no_cast no_sends has_w reaches_w has_r among marks enough is_other only_place entry_ok line_ok hold_ok quiet_ok unknown_ok history_ok joined leading leaving without fits is_panel place_with at_writer place_ok operation_ok in_form empty_line fresh value_of learned spread write_rule read_rule reached take take_held released take_rule hold_rule read_from_rule proceed_rule look_writing look_second look_first look_as look is_peer idle right_bit too_high stray line_full first_trials peer_trials write_trials read_trials write_from_trials read_from_trials proceed_from_trials trials rule refused_by looked_at happens
 values =
     -- P "n=1, t=0: a write and a read each finish in their own start"
     after 1 0 1 1 [] (write 650)

@@ -5,23 +5,25 @@ use Prim.Native.Nat.{ℕ, ◌+◌, ◌-◌, ◌%◌, ◌≤◌, ◌<◌}
 use native.Mathlib.Omega.{arith}
 use lib.{Dec.ltb, ListN.{get_or, set}}
 use borrow.Author.Tests.{eq-eqb, ne_eqb, le-leb, lt-leb, lt-ltb, le-ltb}
-use Rattle.basics.{proofs.Choices.{ite-true, ite-false}, specs.Choice.ite}
+use Rattle.std.specs.Prelude.{Ok, Err}
+use Rattle.basics.{proofs.Choices.{ite-true, ite-false}, proofs.Refusals.{unless-ok, unless-err}, specs.Choice.ite, specs.Refusal.met}
+use Rattle.basics.specs.declared.refused.Refusal.{Refusal}
 use Rattle.messages.specs.Sends.{no_cast}
 use Rattle.tables.specs.{Lines.joined, Marks.only_place, Places.{w_at, r_at, hold_at, line_at, no_write, no_hold}, declared.Line.Line}
 use Rattle.form.{proofs.InForm.{InForm, PlaceOf, form-view}, specs.Asked.Sized, specs.Setting.{own_place, own_w, own_r, set_held, set_lines}}
 use Rattle.form.specs.declared.Tables.{Tables}
 use Rattle.events.specs.{Asked.Takes, Events.{rule, refused_by, looked_at, happens}}
 use Rattle.events.specs.{Rules.{learned, spread, reached, take, take_held, value_of, read_from_rule, sends_proceeds}, declared.Ruled.Ruled}
-use Rattle.refusals.{proofs.Passing.MayCome, specs.Refusals.{Event, refusal}}
+use Rattle.refusals.{proofs.Passing.MayCome, specs.Refusals.{Event, trials}}
 
 module _ (p : Tables) (room : ℕ) (e : Event) where
-  pub happens-refused : (k : ℕ) → k ≡ refusal p room e → k ≢ 0 → refused_by p k ≡ happens p room e
+  pub happens-refused : (r : Refusal) → Err r ≡ met (trials p room e) → refused_by p r ≡ happens p room e
   unfolding happens
-  happens-refused k h n = ap (refused_by p) h ∙ sym (ite-false _ _ (ne_eqb _ _ (λ (z : refusal p room e ≡ 0). n (h ∙ z))))
+  happens-refused r h = sym (unless-err _ _ (sym h))
 
-  pub happens-taken : (k : ℕ) → k ≡ refusal p room e → k ≡ 0 → (q : Ruled) → q ≡ rule p e → looked_at q ≡ happens p room e
+  pub happens-taken : Ok tt ≡ met (trials p room e) → (q : Ruled) → q ≡ rule p e → looked_at q ≡ happens p room e
   unfolding happens
-  happens-taken k h z q r = ap looked_at r ∙ sym (ite-true _ _ (eq-eqb _ _ (sym h ∙ z)))
+  happens-taken h q r = ap looked_at r ∙ sym (unless-ok _ _ (sym h))
 
 -- ---- what an event from a peer may rely on; m is the peer's number as the code holds it
 

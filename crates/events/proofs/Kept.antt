@@ -3,9 +3,8 @@
 use mathlib.Core.{Bool.{Bool, true, false}, Logic.◌≢◌, Path.{◌≡◌, refl}}
 use Prim.Native.Nat.{ℕ, ◌-◌, ◌≤◌}
 use native.Mathlib.Omega.{arith}
-use lib.Dec.{eqb}
-use borrow.Author.Tests.{le-leb, leb-true, eqb-true}
-use Rattle.basics.{proofs.Choices.{clash, ite-case, both_true}, specs.Choice.ite}
+use borrow.Author.Tests.{le-leb, leb-true}
+use Rattle.basics.{proofs.Choices.{clash, ite-case, both_true}, proofs.Refusals.unless-case, specs.Choice.ite}
 use Rattle.tables.specs.declared.WriteNo.{WriteNo}
 use Rattle.form.{proofs.InForm.InForm, proofs.Shape.Shaped, specs.Form.{at_writer, operation_ok}, specs.Setting.{own_w, own_r, set_operation}}
 use Rattle.form.specs.declared.{Operation.Operation, Operation.TheVariants.{Idle, Writing, FirstWait, SecondWait}, Tables.Tables}
@@ -114,8 +113,5 @@ module _ (p : Tables) (g : Good p) where
 
   -- whatever the event, and whether it is refused or not
   pub kept : (room : ℕ) (e : Event) → Good (happens p room e).tables
-  unfolding happens looked_at refused_by
-  kept room e =
-      ite-case (λ (d : Done). Good d.tables) (eqb (refusal p room e) 0) _ _
-      (λ h. look-kept (rule p e).tables (rule-kept room e (eqb-true _ _ h)))
-      (λ _. g)
+  unfolding happens looked_at refused_by refusal
+  kept room e = unless-case (λ (d : Done). Good d.tables) (trials p room e) _ _ (λ h. look-kept (rule p e).tables (rule-kept room e h)) (λ _ _. g)

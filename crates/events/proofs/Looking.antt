@@ -9,7 +9,8 @@ use Rattle.tables.specs.declared.WriteNo.{WriteNo}
 use Rattle.form.specs.{Setting.{own_w, own_r, set_operation}, declared.Operation.Operation, declared.Operation.TheVariants.{Idle, SecondWait}}
 use Rattle.form.specs.declared.Tables.{Tables}
 use Rattle.events.specs.{Asked.sn_of, Look.{look_writing, look_second, look_first, look_as, look}}
-use Rattle.events.specs.declared.Answer.TheVariants.{Nothing, Wrote}
+use Rattle.events.specs.declared.Finished.TheVariants.{Wrote}
+use Rattle.std.specs.Prelude.{Some, None}
 
 pub enough-told : (n t : ℕ) (f : ℕ → Bool) (marked : List Bool) (r : Bool) → marked ≡ marks n f → r ≡ leb (n - t) (count_below 7 (λ (j : ℕ). get_or marked j false)) → r ≡ enough n t f
 enough-told n t f marked r m e = e ∙ ap (λ (l : List Bool). leb (n - t) (count_below 7 (λ (j : ℕ). get_or l j false))) m ∙ enough-marked n t f
@@ -23,13 +24,13 @@ module _ (p : Tables) (i : ℕ) (own : i ≡ p.number) (marked : List Bool) (r :
   first-met : marked ≡ marks p.n (has_r p.r (r_at p.r (i - 1))) → r ≡ enough p.n p.t (has_r p.r (own_r p))
   first-met m = enough-told p.n p.t (has_r p.r (own_r p)) marked r (m ∙ ap (λ (j : ℕ). marks p.n (has_r p.r (r_at p.r (j - 1)))) own) counted
 
-  pub writing-ends : marked ≡ marks p.n (has_w p.w (w_at p.w (i - 1))) → r ≡ true → record { tables = set_operation p Idle; answer = Wrote (get_or p.w (i - 1) no_write) } ≡ look_writing p
+  pub writing-ends : marked ≡ marks p.n (has_w p.w (w_at p.w (i - 1))) → r ≡ true → record { tables = set_operation p Idle; finished = Some (Wrote (get_or p.w (i - 1) no_write)) } ≡ look_writing p
   unfolding look_writing
   writing-ends m t =
-      ap (λ (j : ℕ). record { tables = set_operation p Idle; answer = Wrote (get_or p.w (j - 1) no_write) }) own
+      ap (λ (j : ℕ). record { tables = set_operation p Idle; finished = Some (Wrote (get_or p.w (j - 1) no_write)) }) own
       ∙ sym (ite-true _ _ (sym (writing-met m) ∙ t))
 
-  pub writing-goes-on : marked ≡ marks p.n (has_w p.w (w_at p.w (i - 1))) → r ≡ false → record { tables = p; answer = Nothing } ≡ look_writing p
+  pub writing-goes-on : marked ≡ marks p.n (has_w p.w (w_at p.w (i - 1))) → r ≡ false → record { tables = p; finished = None } ≡ look_writing p
   unfolding look_writing
   writing-goes-on m t = sym (ite-false _ _ (sym (writing-met m) ∙ t))
 
@@ -37,7 +38,7 @@ module _ (p : Tables) (i : ℕ) (own : i ≡ p.number) (marked : List Bool) (r :
   unfolding look_first
   first_ends m t = ap (λ (j : ℕ). look_second p (get_or p.w (j - 1) no_write)) own ∙ sym (ite-true _ _ (sym (first-met m) ∙ t))
 
-  pub first-goes-on : marked ≡ marks p.n (has_r p.r (r_at p.r (i - 1))) → r ≡ false → record { tables = p; answer = Nothing } ≡ look_first p
+  pub first-goes-on : marked ≡ marks p.n (has_r p.r (r_at p.r (i - 1))) → r ≡ false → record { tables = p; finished = None } ≡ look_first p
   unfolding look_first
   first-goes-on m t = sym (ite-false _ _ (sym (first-met m) ∙ t))
 

@@ -1,12 +1,16 @@
 -- What an event comes to at one panel: refused, or its rule and then the look at the operation.
 -- Assumes nothing.
-use Rattle.std.specs.Prelude.{ℕ, ◌-◌, eqb}
-use Rattle.basics.specs.Choice.{ite}
+use Rattle.std.specs.Prelude.{ℕ, ◌-◌, Result, Option, Ok, Err}
+use Rattle.basics.specs.{Choice.ite, Refusal.{met, unless}, declared.refused.Refusal.Refusal}
 use Rattle.messages.specs.Sends.{no_sends}
 use Rattle.form.specs.declared.Tables.{Tables}
 use Rattle.events.specs.{Look.look, Rules.{write_rule, read_rule, take_rule, hold_rule, read_from_rule, proceed_rule}}
-use Rattle.events.specs.declared.{Answer.TheVariants.Refused, Done.Done, Looked.Looked, Ruled.Ruled}
-use Rattle.refusals.specs.Refusals.{Event, right_bit, refusal, Event.{write, read, write_from, read_from, proceed_from}}
+use Rattle.events.specs.declared.{Done.Done, Finished.Finished, Looked.Looked, Ruled.Ruled}
+use Rattle.refusals.specs.Refusals.{Event, right_bit, trials, Event.{write, read, write_from, read_from, proceed_from}}
+
+-- the result of an event: why it is refused, or else what it finished, if anything
+abbrev pub Answer : Type 0
+Answer = Result (Option Finished) Refusal
 
 -- its own rule
 unfoldable pub rule : Tables → Event → Ruled
@@ -17,13 +21,13 @@ rule p (read_from j) = read_from_rule p (j - 1)
 rule p (proceed_from j) = proceed_rule p (j - 1)
 
 -- "A refusal gives its number only and alters no table"
-unfoldable pub refused_by : Tables → ℕ → Done
-refused_by p k = record { tables = p; answer = Refused k; sends = no_sends }
+unfoldable pub refused_by : Tables → Refusal → Done
+refused_by p r = record { tables = p; answer = Err r; sends = no_sends }
 
 -- the operation is looked at after the rule
 unfoldable pub looked_at : Ruled → Done
-looked_at q = let l : Looked = look q.tables in record { tables = l.tables; answer = l.answer; sends = q.sends }
+looked_at q = let l : Looked = look q.tables in record { tables = l.tables; answer = Ok l.finished; sends = q.sends }
 
 -- all that an event comes to
 unfoldable pub happens : Tables → ℕ → Event → Done
-happens p room e = ite (eqb (refusal p room e) 0) (looked_at (rule p e)) (refused_by p (refusal p room e))
+happens p room e = unless (met (trials p room e)) (looked_at (rule p e)) (refused_by p)

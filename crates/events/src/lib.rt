@@ -6,26 +6,28 @@ mod look;
 mod rules;
 mod take;
 
+use basics::Refusal;
 use form::Tables;
 use messages::{Cast, Sends};
 pub use rules::{proceed_from_done, read_done, read_from_done, write_done};
 use tables::WriteNo;
 pub use take::write_from_done;
 
-// The result of an event: a refusal's number; nothing; the number of a finished write; the number and value read.
+// What an operation that ends comes to: the number of the finished write; the number and value read.
 #[derive(Clone, Copy)]
-pub enum Answer {
-    Refused(u8),
-    Nothing,
+pub enum Finished {
     Wrote(WriteNo),
     Gave(WriteNo, u32),
 }
 
-// The panel after a look at its operation, and the result.
+// The result of an event: why it is refused, or else what it finished, if anything.
+pub type Answer = Result<Option<Finished>, Refusal>;
+
+// The panel after a look at its operation, and what that finished.
 #[derive(Clone, Copy)]
 pub struct Looked {
     pub tables: Tables,
-    pub answer: Answer,
+    pub finished: Option<Finished>,
 }
 
 // What taking one WRITE comes to: the next tables, and what goes out for it.

@@ -7,7 +7,7 @@ ghost use Rattle.events.specs.Rules.{value_of};
 ghost use Rattle.events.specs.Look.{look_writing, look_second, look_first, look};
 ghost use Rattle.events.specs.Events.{looked_at};
 
-use crate::{Answer, Done, Looked, Ruled};
+use crate::{Done, Finished, Looked, Ruled};
 use basics::wide;
 use form::{Operation, Tables};
 use tables::WriteNo;
@@ -15,23 +15,7 @@ use tables::WriteNo;
 pub(crate) fn with_operation(p: Tables, o: Operation) -> Tables
     ensures { result ≡ set_operation p o }
 {
-    let w = p.w;
-    let r = p.r;
-    let history = p.history;
-    let held = p.held;
-    let lines = p.lines;
-    Tables {
-        n: p.n,
-        t: p.t,
-        writer: p.writer,
-        number: p.number,
-        w,
-        r,
-        history,
-        held,
-        lines,
-        operation: o,
-    }
+    Tables { operation: o, ..p }
 }
 
 pub(crate) fn value_of(p: Tables, x: WriteNo) -> u32
@@ -52,12 +36,12 @@ fn look_writing(p: Tables) -> Looked
     if tables::enough(p.n, p.t, tables::has_w(ws, p.n, ws[i])) {
         Looked {
             tables: with_operation(p, Operation::Idle),
-            answer: Answer::Wrote(ws[i]),
+            finished: Some(Finished::Wrote(ws[i])),
         }
     } else {
         Looked {
             tables: p,
-            answer: Answer::Nothing,
+            finished: None,
         }
     }
 }
@@ -71,12 +55,12 @@ fn look_second(p: Tables, sn: WriteNo) -> Looked
     if tables::enough(p.n, p.t, tables::reaches_w(ws, p.n, sn)) {
         Looked {
             tables: with_operation(p, Operation::Idle),
-            answer: Answer::Gave(sn, value_of(p, sn)),
+            finished: Some(Finished::Gave(sn, value_of(p, sn))),
         }
     } else {
         Looked {
             tables: with_operation(p, Operation::SecondWait(sn)),
-            answer: Answer::Nothing,
+            finished: None,
         }
     }
 }
@@ -93,7 +77,7 @@ fn look_first(p: Tables) -> Looked
     } else {
         Looked {
             tables: p,
-            answer: Answer::Nothing,
+            finished: None,
         }
     }
 }
@@ -102,11 +86,10 @@ fn look(p: Tables) -> Looked
     requires { Looks p }
     ensures { result ≡ look p }
 {
-    let o = p.operation;
-    match o {
+    match p.operation {
         Operation::Idle => Looked {
             tables: p,
-            answer: Answer::Nothing,
+            finished: None,
         },
         Operation::Writing => look_writing(p),
         Operation::FirstWait => look_first(p),
@@ -118,14 +101,10 @@ pub(crate) fn looked_at(q: Ruled) -> Done
     requires { Looks q.tables }
     ensures { result ≡ looked_at q }
 {
-    let p = q.tables;
-    let sends = q.sends;
-    let l = look(p);
-    let tables = l.tables;
-    let answer = l.answer;
+    let l = look(q.tables);
     Done {
-        tables,
-        answer,
-        sends,
+        tables: l.tables,
+        answer: Ok(l.finished),
+        sends: q.sends,
     }
 }

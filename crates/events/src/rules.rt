@@ -8,19 +8,19 @@ ghost use Rattle.events.specs.Events.{happens, refused_by};
 ghost use Rattle.refusals.specs.Refusals.Event.{write, read, read_from, proceed_from};
 
 use crate::look::{looked_at, with_operation};
-use crate::{Answer, Done, Ruled};
-use basics::wide;
+use crate::{Done, Ruled};
+use basics::{Refusal, wide};
 use form::{Operation, Tables};
 use messages::{Cast, Sends, no_cast};
 use refusals::{refused_proceed_from, refused_read, refused_read_from, refused_write};
 use tables::{Line, ReadNo, WriteNo};
 
-pub(crate) fn refused_by(p: Tables, k: u8) -> Done
-    ensures { result ≡ refused_by p k }
+pub(crate) fn refused_by(p: Tables, refusal: Refusal) -> Done
+    ensures { result ≡ refused_by p refusal }
 {
     Done {
         tables: p,
-        answer: Answer::Refused(k),
+        answer: Err(refusal),
         sends: messages::no_sends(),
     }
 }
@@ -93,11 +93,10 @@ fn write_rule(p: Tables, v: u32) -> Ruled
 pub fn write_done(p: Tables, room: usize, v: u32) -> Done
     ensures { result ≡ happens p room (write v) }
 {
-    let k = refused_write(p, room);
-    if k != 0 {
-        return refused_by(p, k);
+    match refused_write(p, room) {
+        Ok(()) => looked_at(write_rule(p, v)),
+        Err(refusal) => refused_by(p, refusal),
     }
-    looked_at(write_rule(p, v))
 }
 
 fn asked(p: Tables) -> Tables
@@ -129,11 +128,10 @@ fn read_rule(p: Tables) -> Ruled
 pub fn read_done(p: Tables, room: usize) -> Done
     ensures { result ≡ happens p room read }
 {
-    let k = refused_read(p, room);
-    if k != 0 {
-        return refused_by(p, k);
+    match refused_read(p, room) {
+        Ok(()) => looked_at(read_rule(p)),
+        Err(refusal) => refused_by(p, refusal),
     }
-    looked_at(read_rule(p))
 }
 
 pub(crate) fn with_line(p: Tables, k: usize, l: Line) -> Tables
@@ -168,11 +166,10 @@ fn read_from_rule(p: Tables, k: usize) -> Ruled
 pub fn read_from_done(p: Tables, room: usize, j: u8) -> Done
     ensures { result ≡ happens p room (read_from j) }
 {
-    let k = refused_read_from(p, room, j);
-    if k != 0 {
-        return refused_by(p, k);
+    match refused_read_from(p, room, j) {
+        Ok(()) => looked_at(read_from_rule(p, wide(j) - 1)),
+        Err(refusal) => refused_by(p, refusal),
     }
-    looked_at(read_from_rule(p, wide(j) - 1))
 }
 
 // line 22
@@ -192,9 +189,8 @@ fn proceed_rule(p: Tables, k: usize) -> Ruled
 pub fn proceed_from_done(p: Tables, room: usize, j: u8) -> Done
     ensures { result ≡ happens p room (proceed_from j) }
 {
-    let k = refused_proceed_from(p, room, j);
-    if k != 0 {
-        return refused_by(p, k);
+    match refused_proceed_from(p, room, j) {
+        Ok(()) => looked_at(proceed_rule(p, wide(j) - 1)),
+        Err(refusal) => refused_by(p, refusal),
     }
-    looked_at(proceed_rule(p, wide(j) - 1))
 }

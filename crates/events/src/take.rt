@@ -124,9 +124,8 @@ fn hold_rule(p: Tables, k: usize, v: u32) -> Ruled
 pub fn write_from_done(p: Tables, room: usize, j: u8, bit: bool, v: u32) -> Done
     ensures { result ≡ happens p room (write_from j bit v) }
 {
-    let refused = refused_write_from(p, room, j, bit);
-    if refused != 0 {
-        return refused_by(p, refused);
+    if let Err(refusal) = refused_write_from(p, room, j, bit) {
+        return refused_by(p, refusal);
     }
     let k = wide(j) - 1;
     if right_bit(p, k, bit) {

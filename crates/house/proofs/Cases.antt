@@ -4,6 +4,7 @@
 use mathlib.Core.{Bool.{Bool, true, false}, List.{List, [], ◌∷◌}, Path.{◌≡◌, refl}}
 use Prim.Native.Nat.{ℕ}
 use lib.ListN.{replicate}
+use Rattle.std.specs.Prelude.{Option, Some, None}
 use Rattle.basics.specs.{Below.{one_if, all_below, count_below}, Choice.{ite, both}}
 use Rattle.tables.specs.Form.{entry_ok, line_ok, hold_ok, quiet_ok, unknown_ok, history_ok}
 use Rattle.form.specs.Form.{fits, is_panel, at_writer, place_with, place_ok, operation_ok, in_form, empty_line, fresh}
@@ -13,7 +14,7 @@ use Rattle.panel.specs.declared.Panel.{Panel}
 use Rattle.channels.specs.Channels.{by_kind, no_channel, in_flight, has, with_reads, with_proceeds, slot_ok, channel_ok, channel_empty, leads, row_place_ok, row_ok, empty_row}
 use Rattle.channels.specs.{Posting.with_channel, declared.Channel.Channel}
 use Rattle.house.specs.{Places.{row_at, with_panel, with_row, with_down}, Search.{live, first_below, spot_at, of_pair, of_sender, first_in}}
-use Rattle.house.specs.declared.{Found.Found, Network.Network}
+use Rattle.house.specs.declared.{InFlight.InFlight, Network.Network}
 use Rattle.house.specs.NetForm as net
 
 panel : ℕ → ℕ → Panel
@@ -38,8 +39,9 @@ two : Network
 unfolding sending
 two = sending (sending three 1 0 (with_reads no_channel 1)) 0 2 (with_proceeds no_channel 1)
 
-told : Found → List ℕ
-told m = ite m.any (m.sender ∷ m.receiver ∷ m.kind ∷ []) []
+told : Option InFlight → List ℕ
+told None = []
+told (Some m) = m.sender ∷ m.receiver ∷ m.kind ∷ []
 
 forms : List Bool
 unfolding panel three sending two ite both one_if all_below count_below entry_ok line_ok hold_ok quiet_ok unknown_ok history_ok fits is_panel at_writer place_with place_ok operation_ok in_form empty_line fresh unused.entry_zero unused.value_zero unused.line_unused unused.history_unused unused.place_with unused.place_unused unused.idle unused.unused value_of by_kind in_flight has slot_ok channel_ok channel_empty leads row_place_ok row_ok empty_row with_channel net.may_be_down net.downs_in net.member_with net.place_ok net.channels_ok net.net_form

@@ -1,6 +1,7 @@
 pub mod Stores
 pub mod NetForms
 pub mod Kept
+pub mod Wholes
 pub mod Turns
 pub mod Searching
 pub mod Outcomes

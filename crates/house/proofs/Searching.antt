@@ -3,47 +3,47 @@
 -- Assumes nothing.
 use mathlib.Core.{Bool.{Bool, true, false}, Logic.{◌≢◌, ⊎_elim}, Path.{◌≡◌, refl, sym, ap, subst, ◌∙◌}}
 use Prim.Native.Nat.{ℕ, zero, suc, ◌+◌, ◌-◌, ◌≤◌, ◌<◌}
+use Rattle.std.specs.Prelude.{Option, Some, None}
+use Rattle.std.specs.Option.{option_or}
+use Rattle.std.proofs.lemmas.Option.{none-some, same_Some}
 use native.Mathlib.{Decide.dec_lt, Nat.{not-suc-le-zero, eq-or-lt_of_le, le_of_suc-le-suc}, Omega.arith}
-use Rattle.basics.{proofs.Choices.{ite-true, ite-false, ite-case, clash, both_left, both_right, both_true}, specs.Choice.both}
+use Rattle.basics.{proofs.Choices.{ite-case, clash, both_left, both_right, both_true}, specs.Choice.both}
 use Rattle.channels.{proofs.Flying.{has-iff, none-empty}, proofs.RowForm.{RowForm, row_ok-iff}, specs.Channels.{no_channel, in_flight, has}}
 use Rattle.channels.specs.declared.Channel.{Channel}
-use Rattle.house.specs.{Places.{row_at, channel_of, n_of}, Search.{live, first_below, spot_at, of_pair, of_sender, first_in, flying}}
-use Rattle.house.specs.declared.{Found.Found, Network.Network}
+use Rattle.house.specs.{Places.{row_at, channel_of, n_of}, Search.{nowhere, live, first_below, spot_at, of_pair, of_sender, first_in, flying}}
+use Rattle.house.specs.declared.{InFlight.InFlight, Network.Network}
 use Rattle.house.proofs.{NetForms.Formed, Turns.{first-none, first_step, spot}}
 
 -- ---- the first below a bound
 
--- the first of f below n: where it stands, and that f finds nothing before
-record First (n : ℕ) (f : ℕ → Found) : Type 0 where
+-- the first of f below n is x: where it stands, and that f finds nothing before
+record First (n : ℕ) (f : ℕ → Option InFlight) (x : InFlight) : Type 0 where
   place : ℕ
   below : place < n
-  is : first_below n f ≡ f place
-  hits : (f place).any ≡ true
-  before : (k : ℕ) → k < place → (f k).any ≡ false
+  is : f place ≡ Some x
+  before : (k : ℕ) → k < place → f k ≡ nowhere
 
-nothing-below : (n : ℕ) (f : ℕ → Found) → (first_below n f).any ≡ false → (k : ℕ) → k < n → (f k).any ≡ false
+-- what is found one place on, where o is found before
+at-step : (n : ℕ) (f : ℕ → Option InFlight) {o r : Option InFlight} → first_below n f ≡ o → first_below (suc n) f ≡ r → option_or o (f n) ≡ r
+at-step n f q e = sym (first_step n f ∙ ap (λ p. option_or p (f n)) q) ∙ e
+
+nothing-below : (n : ℕ) (f : ℕ → Option InFlight) → first_below n f ≡ nowhere → (k : ℕ) → k < n → f k ≡ nowhere
 nothing-below zero f e k h = absurd (not-suc-le-zero h)
-nothing-below (suc n) f e k h = by (first_below n f).any refl (nothing-below n f)
+nothing-below (suc n) f e k h = by (first_below n f) refl (nothing-below n f)
   where
-    by : (b : Bool) → (first_below n f).any ≡ b → ((first_below n f).any ≡ false → (m : ℕ) → m < n → (f m).any ≡ false) → (f k).any ≡ false
-    by true q lower = clash (ap (λ (x : Found). x.any) (sym (first_step n f ∙ ite-true _ _ q)) ∙ e) q
-    by false q lower =
-        ⊎_elim
-        (λ (l : k ≡ n). ap (λ (m : ℕ). (f m).any) l ∙ ap (λ (x : Found). x.any) (sym (first_step n f ∙ ite-false _ _ q)) ∙ e)
-        (λ (l : k < n). lower q k l)
-        (eq-or-lt_of_le (le_of_suc-le-suc h))
+    by : (o : Option InFlight) → first_below n f ≡ o → (first_below n f ≡ nowhere → (m : ℕ) → m < n → f m ≡ nowhere) → f k ≡ nowhere
+    by (Some x) q lower = absurd (none-some x (sym (at-step n f q e)))
+    by None q lower = ⊎_elim (λ (l : k ≡ n). ap f l ∙ at-step n f q e) (λ (l : k < n). lower q k l) (eq-or-lt_of_le (le_of_suc-le-suc h))
 
-first_below_lem : (n : ℕ) (f : ℕ → Found) → (first_below n f).any ≡ true → First n f
-first_below_lem zero f e = clash (ap (λ (x : Found). x.any) (first-none f)) e
-first_below_lem (suc n) f e = by (first_below n f).any refl (first_below_lem n f)
+first_below_lem : (n : ℕ) (f : ℕ → Option InFlight) (x : InFlight) → first_below n f ≡ Some x → First n f x
+first_below_lem zero f x e = absurd (none-some x (sym (first-none f) ∙ e))
+first_below_lem (suc n) f x e = by (first_below n f) refl (first_below_lem n f x)
   where
-    by : (b : Bool) → (first_below n f).any ≡ b → ((first_below n f).any ≡ true → First n f) → First (suc n) f
-    by true q lower =
-        let r : First n f = lower q in
-        record { place = r.place; below = omega (arith, r.below); is = first_step n f ∙ ite-true _ _ q ∙ r.is; hits = r.hits; before = r.before }
-    by false q lower =
-        let is : first_below (suc n) f ≡ f n = first_step n f ∙ ite-false _ _ q in
-        record { place = n; below = omega arith; is = is; hits = ap (λ (x : Found). x.any) (sym is) ∙ e; before = nothing-below n f q }
+    by : (o : Option InFlight) → first_below n f ≡ o → (first_below n f ≡ Some x → First n f x) → First (suc n) f x
+    by (Some y) q lower =
+        let r : First n f x = lower (q ∙ at-step n f q e) in
+        record { place = r.place; below = omega (arith, r.below); is = r.is; before = r.before }
+    by None q lower = record { place = n; below = omega arith; is = at-step n f q e; before = nothing-below n f q }
 
 -- ---- nothing found
 
@@ -52,41 +52,39 @@ abbrev pub Free : Network → ℕ → ℕ → ℕ → Type 0
 Free s i j k = live s j ≡ true → has (channel_of s i j) k ≡ false
 
 module _ (s : Network) (i j k : ℕ) where
-  there : (spot_at s i j k).any ≡ true → both (live s j) (has (channel_of s i j) k) ≡ true
+  there : (x : InFlight) → spot_at s i j k ≡ Some x → (both (live s j) (has (channel_of s i j) k) ≡ true) × (spot i j k ≡ x)
   unfolding spot_at
-  there = ite-case (λ (x : Found). x.any ≡ true → both (live s j) (has (channel_of s i j) k) ≡ true) _ _ _ (λ e _. e) (λ e h. clash refl h)
+  there x =
+      ite-case (λ (o : Option InFlight). o ≡ Some x → (both (live s j) (has (channel_of s i j) k) ≡ true) × (spot i j k ≡ x)) _ _ _
+      (λ e h. (e, same_Some _ _ h)) (λ e h. absurd (none-some x h))
 
-  free : (spot_at s i j k).any ≡ false → Free s i j k
+  free : spot_at s i j k ≡ nowhere → Free s i j k
   unfolding spot_at
   free =
-      ite-case (λ (x : Found). x.any ≡ false → Free s i j k) (both (live s j) (has (channel_of s i j) k)) _ _
-      (λ e h. clash h refl)
+      ite-case (λ (o : Option InFlight). o ≡ nowhere → Free s i j k) (both (live s j) (has (channel_of s i j) k)) _ _
+      (λ e h. absurd (none-some _ (sym h)))
       (λ e h l. not-both (has (channel_of s i j) k) l e)
     where
       not-both : {a : Bool} (b : Bool) → a ≡ true → both a b ≡ false → b ≡ false
       not-both true e h = clash h (both_true e refl)
       not-both false e h = refl
 
-  is-spot : (spot_at s i j k).any ≡ true → spot_at s i j k ≡ spot i j k
-  unfolding spot_at
-  is-spot h = ite-true _ _ (there h)
-
-free-pair : (s : Network) (i j : ℕ) → (of_pair s i j).any ≡ false → (k : ℕ) → k < 4 → Free s i j k
+free-pair : (s : Network) (i j : ℕ) → of_pair s i j ≡ nowhere → (k : ℕ) → k < 4 → Free s i j k
 unfolding of_pair
 free-pair s i j e k h = free s i j k (nothing-below 4 (spot_at s i j) e k h)
 
-free-sender : (s : Network) (i : ℕ) → (of_sender s i).any ≡ false → (j k : ℕ) → j < 7 → k < 4 → Free s i j k
+free-sender : (s : Network) (i : ℕ) → of_sender s i ≡ nowhere → (j k : ℕ) → j < 7 → k < 4 → Free s i j k
 unfolding of_sender
 free-sender s i e j k h = free-pair s i j (nothing-below 7 (of_pair s i) e j h) k
 
-pub none_found : (s : Network) → (first_in s).any ≡ false → (i j k : ℕ) → i < 7 → j < 7 → k < 4 → Free s i j k
+pub none_found : (s : Network) → first_in s ≡ nowhere → (i j k : ℕ) → i < 7 → j < 7 → k < 4 → Free s i j k
 unfolding first_in
 none_found s e i j k h = free-sender s i (nothing-below 7 (of_sender s) e i h) j k
 
 -- ---- what is found
 
 -- a message in flight to a live panel, and none before it by sender, then receiver, then kind
-pub record Hits (s : Network) (m : Found) : Type 0 where
+pub record Hits (s : Network) (m : InFlight) : Type 0 where
   pub sender-low : 1 ≤ m.sender
   pub sender-high : m.sender ≤ 7
   pub receiver-low : 1 ≤ m.receiver
@@ -103,8 +101,8 @@ module _ (s : Network) (i j k : ℕ) where
   back x = omega arith
 
   at-spot :
-      i < 7 → j < 7 → k < 4 → both (live s j) (has (channel_of s i j) k) ≡ true → ((x : ℕ) → x < i → (of_sender s x).any ≡ false) →
-      ((y : ℕ) → y < j → (of_pair s i y).any ≡ false) → ((l : ℕ) → l < k → (spot_at s i j l).any ≡ false) → Hits s (spot i j k)
+      i < 7 → j < 7 → k < 4 → both (live s j) (has (channel_of s i j) k) ≡ true → ((x : ℕ) → x < i → of_sender s x ≡ nowhere) →
+      ((y : ℕ) → y < j → of_pair s i y ≡ nowhere) → ((l : ℕ) → l < k → spot_at s i j l ≡ nowhere) → Hits s (spot i j k)
   at-spot hi hj hk test senders receivers kinds =
       record {
         sender-low = omega arith;
@@ -121,15 +119,14 @@ module _ (s : Network) (i j k : ℕ) where
             subst (λ (x : ℕ). Free s x (j + 1 - 1) l) (back i) (subst (λ (y : ℕ). Free s i y l) (back j) (free s i j l (kinds l h)));
       }
 
-pub found : (s : Network) → (first_in s).any ≡ true → Hits s (first_in s)
+pub found : (s : Network) (m : InFlight) → first_in s ≡ Some m → Hits s m
 unfolding first_in of_sender of_pair
-found s e =
-    let a : First 7 (of_sender s) = first_below_lem 7 (of_sender s) e in
-    let b : First 7 (of_pair s a.place) = first_below_lem 7 (of_pair s a.place) a.hits in
-    let c : First 4 (spot_at s a.place b.place) = first_below_lem 4 (spot_at s a.place b.place) b.hits in
-    let is : first_in s ≡ spot a.place b.place c.place = a.is ∙ b.is ∙ c.is ∙ is-spot s _ _ _ c.hits in
-    subst (Hits s) (sym is)
-    (at-spot s a.place b.place c.place a.below b.below c.below (there s _ _ _ c.hits) a.before b.before c.before)
+found s m e =
+    let a : First 7 (of_sender s) m = first_below_lem 7 (of_sender s) m e in
+    let b : First 7 (of_pair s a.place) m = first_below_lem 7 (of_pair s a.place) m a.is in
+    let c : First 4 (spot_at s a.place b.place) m = first_below_lem 4 (spot_at s a.place b.place) m b.is in
+    let t = there s a.place b.place c.place m c.is in
+    subst (Hits s) t.1 (at-spot s a.place b.place c.place a.below b.below c.below t.0 a.before b.before c.before)
 
 -- ---- in a network in form
 
@@ -168,20 +165,18 @@ pub record Pair (n i j : ℕ) : Type 0 where
   pub receiver-high : j ≤ n
   pub apart : i ≢ j
 
-pub found-pair : (s : Network) → Formed s → (first_in s).any ≡ true → Pair (n_of s) (first_in s).sender (first_in s).receiver
-found-pair s f e = by (found s e)
-  where
-    by : Hits s (first_in s) → Pair (n_of s) (first_in s).sender (first_in s).receiver
-    by h =
-        let b : Between s ((first_in s).sender - 1) ((first_in s).receiver - 1)
-        = in-flight-between s f _ _ _ (omega (arith, h.sender-high)) (omega (arith, h.receiver-high)) h.in-flight in
-        record {
-          sender-low = h.sender-low;
-          sender-high = omega (arith, b.sender-within);
-          receiver-low = h.receiver-low;
-          receiver-high = omega (arith, b.receiver-within);
-          apart = λ q. b.apart (ap (λ (x : ℕ). x - 1) q);
-        }
+pub found-pair : (s : Network) → Formed s → (m : InFlight) → first_in s ≡ Some m → Pair (n_of s) m.sender m.receiver
+found-pair s f m e =
+    let h : Hits s m = found s m e in
+    let b : Between s (m.sender - 1) (m.receiver - 1)
+    = in-flight-between s f _ _ _ (omega (arith, h.sender-high)) (omega (arith, h.receiver-high)) h.in-flight in
+    record {
+      sender-low = h.sender-low;
+      sender-high = omega (arith, b.sender-within);
+      receiver-low = h.receiver-low;
+      receiver-high = omega (arith, b.receiver-within);
+      apart = λ q. b.apart (ap (λ (x : ℕ). x - 1) q);
+    }
 
 -- ---- the search looks at nothing but the channels and who is down
 

@@ -1,36 +1,46 @@
--- The laws by which the search's three loops go, for its code.
+-- The laws by which the loops go, for the code: those over all places, and the search's three.
 -- Assumes nothing.
 use mathlib.Core.{Bool.{Bool, true, false, not}, Logic.⊎_elim, Path.{◌≡◌, refl, sym, ap, ◌∙◌}}
 use Prim.Native.Nat.{ℕ, zero, suc, ◌+◌, ◌<◌}
+use Rattle.std.specs.Prelude.{Option, Some}
+use Rattle.std.specs.Option.{option_or}
 use native.Mathlib.{Nat.{not-suc-le-zero, eq-or-lt_of_le, le_of_suc-le-suc}, Numerals.add-one}
-use Rattle.basics.{proofs.Choices.{ite-true, ite-false}, specs.Choice.{ite, both}}
+pub use Rattle.basics.proofs.Below.{all-next}
+use Rattle.basics.{proofs.Choices.{ite-true, ite-false}, specs.Below.all_below, specs.Choice.{both}}
 use Rattle.channels.specs.Channels.{has}
 use Rattle.house.specs.{Places.{channel_of, down_at}, Search.{nowhere, live, first_below, spot_at, of_pair, of_sender, first_in}}
-use Rattle.house.specs.declared.{Found.Found, Network.Network}
+use Rattle.house.specs.declared.{InFlight.InFlight, Network.Network}
+
+-- ---- a test of all places
+
+pub all-none : (f : ℕ → Bool) → all_below 0 f ≡ true
+unfolding all_below
+all-none f = refl
+
+pub ruleset all_turns = (all-none, all-next)
 
 -- ---- the first below a bound
 
-pub first-none : (f : ℕ → Found) → first_below 0 f ≡ nowhere
+pub first-none : (f : ℕ → Option InFlight) → first_below 0 f ≡ nowhere
 unfolding first_below
 first-none f = refl
 
-pub first_next : (k : ℕ) (f : ℕ → Found) → first_below k f ≡ nowhere → f k ≡ nowhere → first_below (k + 1) f ≡ nowhere
-unfolding first_below ite
+pub first_next : (k : ℕ) (f : ℕ → Option InFlight) → first_below k f ≡ nowhere → f k ≡ nowhere → first_below (k + 1) f ≡ nowhere
+unfolding first_below
 first_next k f e h = simp (add-one, e, h)
 
-pub first_step : (n : ℕ) (f : ℕ → Found) → first_below (suc n) f ≡ ite (first_below n f).any (first_below n f) (f n)
+pub first_step : (n : ℕ) (f : ℕ → Option InFlight) → first_below (suc n) f ≡ option_or (first_below n f) (f n)
 unfolding first_below
 first_step n f = refl
 
 -- what is found first is found, however far one looks
-pub first-hit : (n m : ℕ) (f : ℕ → Found) → m < n → first_below m f ≡ nowhere → (f m).any ≡ true → first_below n f ≡ f m
-unfolding ite
+pub first-hit : (n m : ℕ) (f : ℕ → Option InFlight) {x : InFlight} → m < n → first_below m f ≡ nowhere → f m ≡ Some x → first_below n f ≡ Some x
 first-hit zero m f h e t = absurd (not-suc-le-zero h)
 first-hit (suc n) m f h e t =
     first_step n f
     ∙ ⊎_elim
-    (λ (q : m ≡ n). simp (sym q, e))
-    (λ (l : m < n). simp (first-hit n m f l e t, t))
+    (λ (q : m ≡ n). simp (sym q, e, t))
+    (λ (l : m < n). simp (first-hit n m f l e t))
     (eq-or-lt_of_le (le_of_suc-le-suc h))
 
 -- ---- nothing found by a whole loop, which ends at e
@@ -49,8 +59,8 @@ all_none s end none = ap (λ (e : ℕ). first_below e (of_sender s)) (sym end) �
 
 -- ---- one turn: from place i to place j, kind k
 
-abbrev pub spot : ℕ → ℕ → ℕ → Found
-spot i j k = record { any = true; sender = i + 1; receiver = j + 1; kind = k }
+abbrev pub spot : ℕ → ℕ → ℕ → InFlight
+spot i j k = record { sender = i + 1; receiver = j + 1; kind = k }
 
 -- t and r are what the channel has, and whether that is found, as the code holds them
 module _ (s : Network) (i j k : ℕ) {t r : Bool} (there : t ≡ has (channel_of s i j) k) (found : r ≡ both (not (down_at s j)) t) where
@@ -62,16 +72,15 @@ module _ (s : Network) (i j k : ℕ) {t r : Bool} (there : t ≡ has (channel_of
   unfolding spot_at
   spot-miss e = ite-false _ _ (sym tested ∙ e)
 
-  pub spot-hit : r ≡ true → spot_at s i j k ≡ spot i j k
+  pub spot-hit : r ≡ true → spot_at s i j k ≡ Some (spot i j k)
   unfolding spot_at
   spot-hit e = ite-true _ _ (sym tested ∙ e)
 
   pub hit-is :
       i < 7 → j < 7 → k < 4 → first_below i (of_sender s) ≡ nowhere → first_below j (of_pair s i) ≡ nowhere → first_below k (spot_at s i j) ≡ nowhere →
-      r ≡ true → first_in s ≡ spot i j k
+      r ≡ true → first_in s ≡ Some (spot i j k)
   unfolding first_in of_sender of_pair
   hit-is hi hj hk ei ej ek e =
-      let at-kind : spot_at s i j k ≡ spot i j k = spot-hit e in
-      let at_pair : of_pair s i j ≡ spot i j k = first-hit 4 k (spot_at s i j) hk ek (ap (λ (x : Found). x.any) at-kind) ∙ at-kind in
-      let at-sender : of_sender s i ≡ spot i j k = first-hit 7 j (of_pair s i) hj ej (ap (λ (x : Found). x.any) at_pair) ∙ at_pair in
-      first-hit 7 i (of_sender s) hi ei (ap (λ (x : Found). x.any) at-sender) ∙ at-sender
+      first-hit 7 i (of_sender s) hi ei (first-hit 7 j (of_pair s i) hj ej (first-hit 4 k (spot_at s i j) hk ek (spot-hit e)))
+
+pub ruleset search_turns = (first-none, first_next, pair-none, sender-none, all_none, spot-miss)

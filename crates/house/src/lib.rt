@@ -2,21 +2,17 @@
 // message in flight to a live panel. Every call here takes any network and any numbers.
 #![tactic(auto)]
 
-ghost use Rattle.std.specs.Prelude.{◌≡◌, true, not, ℕ, ◌≤◌, ◌<◌, length};
+ghost use Rattle.std.specs.Prelude.{◌≡◌, true, not, ◌≤◌, ◌<◌};
 ghost use Rattle.basics.specs.Choice.{both};
-ghost use Rattle.basics.specs.Below.{all_below, one_if};
-ghost use Rattle.form.specs.Shape.{Shaped};
+ghost use Rattle.basics.specs.Below.{all_below};
 ghost use Rattle.unused.specs.Unused.{unused};
-ghost use Rattle.house.specs.Places.{row_at, tables_at};
 ghost use Rattle.house.specs.NetForm.{member_with, place_with, place_ok, channels_ok, downs_in, may_be_down, net_form};
 ghost use Rattle.house.specs.Search.{flying, first_in};
 ghost use Rattle.house.specs.Whole.{Whole};
 
-use basics::{both, one_if, wide};
+use basics::{both, wide};
 use channels::Row;
-use form::Tables;
 use panel::Panel;
-use tables::Line;
 
 // Place 0 is panel 1; a row holds the channels that leave its panel.
 #[derive(Clone, Copy)]
@@ -26,84 +22,93 @@ pub struct Network {
     pub down: [bool; 7],
 }
 
-// A message in flight, by the numbers of its two panels and its kind, or none.
-#[derive(Clone, Copy)]
-pub struct Found {
-    pub any: bool,
+// A message in flight, by the numbers of its two panels and its kind.
+#[derive(Clone, Copy, Debug, PartialEq, Eq)]
+pub struct InFlight {
     pub sender: u8,
     pub receiver: u8,
     pub kind: u8,
 }
 
+// What the panels of a network agree on.
+#[derive(Clone, Copy)]
+struct Setting {
+    n: u8,
+    t: u8,
+    writer: u8,
+    initial: u32,
+}
+
 // ---- in form
 
-fn member_ok(p: Panel, n: u8, t: u8, writer: u8, initial: u32, number: u8) -> bool
-    ensures { result ≡ member_with p.tables n t writer initial number }
-{
-    let form = p.in_form();
-    let q = p.tables;
-    both(
-        form,
+impl Setting {
+    #[tactic(auto, unfolding(crate::specs::NetForm::member_with, events::specs::Rules::value_of))]
+    fn member_ok(self, p: Panel, number: u8) -> bool
+        ensures { result ≡ member_with p.tables self.n self.t self.writer self.initial number }
+    {
+        let form = p.in_form();
+        let q = p.tables;
         both(
-            q.n == n,
+            form,
             both(
-                q.t == t,
+                q.n == self.n,
                 both(
-                    q.writer == writer,
-                    both(q.history[0] == initial, q.number == number),
+                    q.t == self.t,
+                    both(
+                        q.writer == self.writer,
+                        both(q.history[0] == self.initial, q.number == number),
+                    ),
                 ),
             ),
-        ),
-    )
+        )
+    }
+
+    // What stands at place i: one of the n panels, or nothing.
+    #[tactic(auto, unfolding(basics::specs::Choice::ite))]
+    fn place_ok(self, p: Panel, down: bool, i: usize) -> bool
+        requires { i < 7 }
+        ensures { result ≡ place_with p.tables down self.n self.t self.writer self.initial i }
+    {
+        if i < wide(self.n) {
+            self.member_ok(p, (i + 1) as u8)
+        } else {
+            nothing_at(p, down)
+        }
+    }
 }
 
 fn nothing_at(p: Panel, down: bool) -> bool
     ensures { result ≡ both (unused p.tables) (not down) }
 {
-    let q = p.tables;
-    both(unused::unused(q), !down)
+    both(unused::unused(p.tables), !down)
 }
 
-// What stands at place i of a network of n panels.
-fn place_ok(p: Panel, down: bool, n: u8, t: u8, writer: u8, initial: u32, i: usize) -> bool
-    requires { i < 7 }
-    ensures { result ≡ place_with p.tables down n t writer initial i }
-{
-    if i < wide(n) {
-        return member_ok(p, n, t, writer, initial, (i + 1) as u8);
-    }
-    nothing_at(p, down)
-}
-
+#[tactic(auto, using(crate::proofs::Turns::all_turns), unfolding(crate::specs::NetForm::place_ok, events::specs::Rules::value_of))]
 fn places_ok(s: Network) -> bool
     ensures { result ≡ all_below 7 (place_ok s) }
 {
-    let first = s.panels[0];
-    let f = first.tables;
-    let initial = f.history[0];
+    let first = &s.panels[0].tables;
+    let setting = Setting {
+        n: first.n,
+        t: first.t,
+        writer: first.writer,
+        initial: first.history[0],
+    };
     let mut ok = true;
-    let mut i = 0;
-    while i < 7 {
-        let p = s.panels[i];
-        let e = place_ok(p, s.down[i], f.n, f.t, f.writer, initial, i);
-        ok = both(ok, e);
-        i += 1;
+    for i in 0..7 {
+        ok = both(ok, setting.place_ok(s.panels[i], s.down[i], i));
     }
     ok
 }
 
+#[tactic(auto, using(crate::proofs::Turns::all_turns), unfolding(crate::specs::NetForm::channels_ok))]
 fn rows_ok(s: Network) -> bool
     ensures { result ≡ all_below 7 (channels_ok s) }
 {
-    let first = s.panels[0];
-    let f = first.tables;
-    let n = f.n;
+    let n = s.panels[0].tables.n;
     let mut ok = true;
-    let mut i = 0;
-    while i < 7 {
-        let row = s.rows[i];
-        ok = both(ok, channels::row_ok(row, n, i));
-        i += 1;
+    for i in 0..7 {
+        ok = both(ok, channels::row_ok(s.rows[i], n, i));
     }
     ok
 }
@@ -112,32 +117,27 @@ fn rows_ok(s: Network) -> bool
 pub fn downs(down: [bool; 7]) -> usize
     ensures { (result ≡ downs_in down) × (result ≤ 7) }
 {
-    let mut m = 0;
-    let mut i = 0;
-    while i < 7 {
-        m += one_if(down[i]);
-        i += 1;
-    }
-    m
+    down.iter().filter(|d| **d).count()
 }
 
 // Whether m panels may be down at once.
+#[tactic(auto, unfolding(crate::specs::NetForm::may_be_down))]
 pub fn may_be_down(t: u8, m: usize) -> bool
     ensures { result ≡ may_be_down t m }
 {
     m <= wide(t)
 }
 
+#[tactic(auto, unfolding(crate::specs::NetForm::net_form))]
 pub fn in_form(s: Network) -> bool
     ensures { result ≡ net_form s }
 {
-    let first = s.panels[0];
-    let f = first.tables;
-    let down = s.down;
+    let n = s.panels[0].tables.n;
+    let t = s.panels[0].tables.t;
     let rows = rows_ok(s);
-    let few = may_be_down(f.t, downs(down));
+    let few = may_be_down(t, downs(s.down));
     let places = places_ok(s);
-    both(1 <= f.n, both(places, both(few, rows)))
+    both(1 <= n, both(places, both(few, rows)))
 }
 
 // ---- the search
@@ -149,91 +149,36 @@ fn hit(down: bool, there: bool) -> bool
 }
 
 // The first message in flight to a live panel, by sender, then receiver, then kind.
-pub fn first_in_flight(rows: [Row; 7], down: [bool; 7]) -> Found
+#[tactic(auto, using(crate::proofs::Turns::search_turns))]
+pub fn first_in_flight(rows: [Row; 7], down: [bool; 7]) -> Option<InFlight>
     ensures { result ≡ first_in (flying rows down) }
 {
-    let mut at = Found {
-        any: false,
-        sender: 0,
-        receiver: 0,
-        kind: 0,
-    };
-    let mut from = 0;
-    'search: while from < 7 {
+    let mut found = None;
+    'search: for from in 0..7 {
         let row = rows[from];
-        let mut to = 0;
-        while to < 7 {
+        for to in 0..7 {
             let c = row.to[to];
             let off = down[to];
-            let mut kind = 0;
-            while kind < 4 {
+            for kind in 0..4 {
                 if hit(off, channels::has(c, kind)) {
-                    at = Found {
-                        any: true,
+                    found = Some(InFlight {
                         sender: (from + 1) as u8,
                         receiver: (to + 1) as u8,
                         kind,
-                    };
+                    });
                     break 'search;
                 }
-                kind += 1;
             }
-            to += 1;
         }
-        from += 1;
     }
-    at
+    found
 }
 
 // ---- lengths, which the arrays' types give
-
-fn line_long(l: Line)
-    ensures { length l.sn ≡ 100 }
-{}
-
-fn shaped(p: Tables)
-    ensures { Shaped p }
-{
-    let mut j = 0;
-    while j < 7 {
-        let l = p.lines[j];
-        line_long(l);
-        j += 1;
-    }
-}
-
-fn panels_shaped(s: Network)
-    ensures { (i : ℕ) → i < 7 → Shaped (tables_at s i) }
-{
-    let mut i = 0;
-    while i < 7 {
-        let p = s.panels[i];
-        let t = p.tables;
-        shaped(t);
-        i += 1;
-    }
-}
-
-fn row_long(r: Row)
-    ensures { length r.to ≡ 7 }
-{}
-
-fn rows_long(s: Network)
-    ensures { (i : ℕ) → i < 7 → length (row_at s i).to ≡ 7 }
-{
-    let mut i = 0;
-    while i < 7 {
-        let row = s.rows[i];
-        row_long(row);
-        i += 1;
-    }
-}
 
 // Does nothing: its contract hands on what the types say.
 pub fn whole(s: Network) -> bool
     ensures { (result ≡ true) × Whole s }
 {
-    panels_shaped(s);
-    rows_long(s);
     true
 }

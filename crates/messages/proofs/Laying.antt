@@ -112,19 +112,6 @@ further_then {l} {m} {o} {ms} {ns} f g =
 pub further-as : {l m : Laid} {ms ns : List Message} → ns ≡ ms → Further l ms m → Further l ns m
 further-as {l} {m} e f = subst (λ (ks : List Message). Further l ks m) (sym e) f
 
--- the three slices keep their lengths
-pub further-lengths :
-    {l m : Laid} {ms : List Message} → Further l ms m →
-    (length m.area.receivers ≡ length l.area.receivers)
-    × (length m.area.kinds ≡ length l.area.kinds)
-    × (length m.area.values ≡ length l.area.values)
-unfolding laid_in
-further-lengths f = (
-  ap (λ (a : Area). length a.receivers) f.area_is ∙ length-laid _ _ _,
-  ap (λ (a : Area). length a.kinds) f.area_is ∙ length-laid _ _ _,
-  ap (λ (a : Area). length a.values) f.area_is ∙ length-laid _ _ _,
-)
-
 -- all that an event sends, from place 0 on
 pub laying-all : (s : Sends) {a : Area} {m : Laid} → Further (record { count = 0; area = a }) (messages_of s) m → m ≡ laying s a
 unfolding laying

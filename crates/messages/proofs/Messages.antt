@@ -7,7 +7,7 @@ use mathlib.Core.{Logic.{◌⊎◌, inl, inr}, Path.{◌≡◌, refl, sym, ap, a
 use Prim.Native.Nat.{ℕ, zero, suc, ◌+◌, ◌≤◌, ◌<◌}
 use native.Mathlib.{Nat.not-suc-le-zero, Numerals.add-one, Omega.arith}
 use lib.{ListN.{length, get_or, length-append, get_or-append, get_or-map, length-map}, Seq.get_or_at}
-use Rattle.basics.{proofs.Below.{last-or-below, count_most}, proofs.Choices.ite-true, specs.Below.{one_if, count_below}, specs.Choice.ite}
+use Rattle.basics.{proofs.Below.{last-or-below, count_most}, proofs.Choices.{ite-true, ite-false}, specs.Below.{one_if, count_below}, specs.Choice.ite}
 use Rattle.messages.specs.{Area.receivers_of, Sends.{Message, cast_below, cast_of, proceeds_to, messages_of, no_cast, no_sends}}
 use Rattle.messages.specs.declared.{Cast.Cast, Sends.Sends}
 
@@ -38,6 +38,12 @@ below_none c = refl
 pub below_next : (j : ℕ) (c : Cast) → cast_below (j + 1) c ≡ cast_below j c ++ cast_at c j
 unfolding cast_below
 below_next j c = ap (λ (n : ℕ). cast_below n c) (add-one j)
+
+pub below-marked : (j : ℕ) (c : Cast) → get_or c.to j false ≡ true → cast_below (j + 1) c ≡ cast_below j c ++ (cast_to c j ∷ [])
+below-marked j c h = below_next j c ∙ ap (λ (ms : List Message). cast_below j c ++ ms) (ite-true _ _ h)
+
+pub below-unmarked : (j : ℕ) (c : Cast) → get_or c.to j false ≡ false → cast_below (j + 1) c ≡ cast_below j c
+below-unmarked j c h = below_next j c ∙ ap (λ (ms : List Message). cast_below j c ++ ms) (ite-false _ _ h) ∙ append-nil (cast_below j c)
 
 -- a PROCEED to panel j
 abbrev pub proceed_to : ℕ → Message
@@ -78,6 +84,9 @@ pub length-proceeds : (m j : ℕ) → length (proceeds_to m j) ≡ m
 unfolding proceeds_to
 length-proceeds zero j = refl
 length-proceeds (suc m) j = length-append (proceeds_to m j) _ ∙ ap (λ (n : ℕ). n + 1) (length-proceeds m j) ∙ add-one m
+
+-- what bounds a place where a message is laid
+pub ruleset counts = (below-most, cast-most, length-proceeds)
 
 pub length-messages : (s : Sends) → length (messages_of s) ≡ length (cast_of s.own) + (length (cast_of s.held) + s.proceeds)
 unfolding messages_of

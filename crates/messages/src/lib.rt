@@ -6,7 +6,7 @@ ghost use Rattle.basics.specs.Choice.{ite};
 ghost use Rattle.messages.specs.Sends.{no_cast, no_sends, cast_of, proceeds_to};
 ghost use Rattle.messages.specs.Area.{room_of, laying, Further};
 
-use basics::least;
+use basics::Kind;
 
 // The same message to each marked panel; place 0 is panel 1.
 #[derive(Clone, Copy)]
@@ -25,6 +25,7 @@ pub struct Sends {
     pub proceeds: u8,
 }
 
+#[tactic(auto, unfolding(crate::specs::Sends::no_cast))]
 pub fn no_cast() -> Cast
     ensures { result ≡ no_cast }
 {
@@ -35,6 +36,7 @@ pub fn no_cast() -> Cast
     }
 }
 
+#[tactic(auto, unfolding(crate::specs::Sends::no_sends))]
 pub fn no_sends() -> Sends
     ensures { result ≡ no_sends }
 {
@@ -47,10 +49,11 @@ pub fn no_sends() -> Sends
 }
 
 // How many messages the three slices have places for.
+#[tactic(auto, unfolding(crate::specs::Area::room_of))]
 pub fn room_of(receivers: &[u8], kinds: &[u8], values: &[u32]) -> usize
     ensures { result ≡ room_of (record { receivers = receivers.now; kinds = kinds.now; values = values.now }) }
 {
-    least(receivers.len(), least(kinds.len(), values.len()))
+    receivers.len().min(kinds.len()).min(values.len())
 }
 
 fn put_value(area: &mut [u32], at: usize, v: u32)
@@ -61,29 +64,26 @@ fn put_value(area: &mut [u32], at: usize, v: u32)
     }
 }
 
-// One message where b holds.
-fn put_if(
-    b: bool,
+// One message, at a place.
+fn put(
     at: usize,
-    j: u8,
-    k: u8,
-    v: u32,
+    to: u8,
+    kind: u8,
+    value: u32,
     receivers: &mut [u8],
     kinds: &mut [u8],
     values: &mut [u32],
 ) -> usize
     requires { at < 1000 }
-    ensures { Further (record { count = at; area = record { receivers = receivers.old; kinds = kinds.old; values = values.old } }) (ite b (record { to = j; kind = k; value = v } ∷ []) []) (record { count = result; area = record { receivers = receivers.new; kinds = kinds.new; values = values.new } }) }
+    ensures { Further (record { count = at; area = record { receivers = receivers.old; kinds = kinds.old; values = values.old } }) (record { to = to; kind = kind; value = value } ∷ []) (record { count = result; area = record { receivers = receivers.new; kinds = kinds.new; values = values.new } }) }
 {
-    if b {
-        codec::put_byte(receivers, at, j);
-        codec::put_byte(kinds, at, k);
-        put_value(values, at, v);
-        return at + 1;
-    }
-    at
+    codec::put_byte(receivers, at, to);
+    codec::put_byte(kinds, at, kind);
+    put_value(values, at, value);
+    at + 1
 }
 
+#[tactic(auto, using(crate::proofs::Messages::counts))]
 fn lay_cast(
     c: Cast,
     from: usize,
@@ -94,25 +94,17 @@ fn lay_cast(
     requires { from < 900 }
     ensures { Further (record { count = from; area = record { receivers = receivers.old; kinds = kinds.old; values = values.old } }) (cast_of c) (record { count = result; area = record { receivers = receivers.new; kinds = kinds.new; values = values.new } }) }
 {
-    let to = c.to;
     let mut at = from;
-    let mut j = 0;
-    while j < 7 {
-        at = put_if(
-            to[j],
-            at,
-            (j + 1) as u8,
-            c.kind,
-            c.value,
-            receivers,
-            kinds,
-            values,
-        );
-        j += 1;
+    for (j, marked) in c.to.iter().enumerate() {
+        if *marked {
+            let to = (j + 1) as u8;
+            at = put(at, to, c.kind, c.value, receivers, kinds, values);
+        }
     }
     at
 }
 
+#[tactic(auto, using(crate::proofs::Messages::counts))]
 fn lay_proceeds(
     peer: u8,
     m: u8,
@@ -124,22 +116,20 @@ fn lay_proceeds(
     requires { from < 700 }
     ensures { Further (record { count = from; area = record { receivers = receivers.old; kinds = kinds.old; values = values.old } }) (proceeds_to m peer) (record { count = result; area = record { receivers = receivers.new; kinds = kinds.new; values = values.new } }) }
 {
+    let kind = Kind::Proceed.byte();
     let mut at = from;
-    let mut i = 0;
-    while i < m {
-        at = put_if(true, at, peer, 3, 0, receivers, kinds, values);
-        i += 1;
+    for _ in 0..m {
+        at = put(at, peer, kind, 0, receivers, kinds, values);
     }
     at
 }
 
 // Lays what s sends into the first places, and says how many messages that is. A place past a slice's end is not written.
+#[tactic(auto, using(crate::proofs::Messages::counts))]
 pub fn lay(s: Sends, receivers: &mut [u8], kinds: &mut [u8], values: &mut [u32]) -> usize
     ensures { record { count = result; area = record { receivers = receivers.new; kinds = kinds.new; values = values.new } } ≡ laying s (record { receivers = receivers.old; kinds = kinds.old; values = values.old }) }
 {
-    let own = s.own;
-    let held = s.held;
-    let a = lay_cast(own, 0, receivers, kinds, values);
-    let b = lay_cast(held, a, receivers, kinds, values);
+    let a = lay_cast(s.own, 0, receivers, kinds, values);
+    let b = lay_cast(s.held, a, receivers, kinds, values);
     lay_proceeds(s.peer, s.proceeds, b, receivers, kinds, values)
 }

@@ -2,12 +2,14 @@
 -- Assumes nothing.
 use mathlib.Core.{Bool.{true, false}, Path.{◌≡◌, refl, ap, ◌∙◌}}
 use Prim.Native.Nat.{ℕ}
-use Rattle.basics.proofs.Choices.{ite-true, ite-false}
+use Rattle.std.specs.Prelude.{not, Result, Ok, Err}
+use Rattle.basics.{proofs.Refusals.{met-given, met-not, met-none}, specs.Refusal.and_then}
+use Rattle.basics.specs.declared.refused.Refusal.{Refusal, TheVariants.{OutOfRange, NoSuchPanel}}
 use Rattle.messages.specs.Area.{Area, Laid, laying, room_of}
 use Rattle.form.specs.Form.{fits, is_panel, fresh}
 use Rattle.refusals.specs.Refusals.{Event}
 use Rattle.events.specs.{Events.happens, declared.Done.Done}
-use Rattle.panel.specs.{Calls.{Called, panel_of, next_of, after, told, called, nothing, made}, declared.Next.Next, declared.Panel.Panel}
+use Rattle.panel.specs.{Calls.{Called, panel_of, next_of, after, told, called, nothing, made, set_up_trials}, declared.Next.Next, declared.Panel.Panel}
 
 pub told-as :
     (d : Done) (a : Area) (laid : Laid) → laid ≡ laying d.sends a →
@@ -32,15 +34,15 @@ unfolding nothing
 nothing_is = refl
 
 module _ (n t writer number v : ℕ) where
-  pub made-unfit : fits n t writer ≡ false → made n t writer number v ≡ record { refusal = 1; panel = nothing }
-  unfolding made
-  made-unfit f = ite-false _ _ f
+  pub made-unfit : fits n t writer ≡ false → made n t writer number v ≡ Err OutOfRange
+  unfolding made set_up_trials
+  made-unfit f = ap (λ (m : Result Unit Refusal). and_then m (Ok (panel_of (fresh n t writer number v)))) (met-given _ _ (ap not f))
 
   module _ (f : fits n t writer ≡ true) where
-    pub made-elsewhere : is_panel n number ≡ false → made n t writer number v ≡ record { refusal = 4; panel = nothing }
-    unfolding made
-    made-elsewhere i = ite-true _ _ f ∙ ite-false _ _ i
+    pub made-elsewhere : is_panel n number ≡ false → made n t writer number v ≡ Err NoSuchPanel
+    unfolding made set_up_trials
+    made-elsewhere i = ap (λ (m : Result Unit Refusal). and_then m (Ok (panel_of (fresh n t writer number v)))) (met-not _ _ (ap not f) ∙ met-given _ _ (ap not i))
 
-    pub made-done : is_panel n number ≡ true → made n t writer number v ≡ record { refusal = 0; panel = panel_of (fresh n t writer number v) }
-    unfolding made
-    made-done i = ite-true _ _ f ∙ ite-true _ _ i
+    pub made-done : is_panel n number ≡ true → made n t writer number v ≡ Ok (panel_of (fresh n t writer number v))
+    unfolding made set_up_trials
+    made-done i = ap (λ (m : Result Unit Refusal). and_then m (Ok (panel_of (fresh n t writer number v)))) (met-not _ _ (ap not f) ∙ met-not _ _ (ap not i) ∙ met-none)

@@ -2,13 +2,13 @@
 -- of the same line.
 -- Assumes nothing.
 use mathlib.Core.{List.{[], ◌∷◌}, Path.{◌≡◌, refl}}
-use Rattle.basics.specs.Choice.{ite, both}
+use Rattle.basics.specs.{Choice.{ite, both}, Refusal.{code, met}}
 use Rattle.form.specs.Form.{fits, is_panel, empty_line, fresh}
-use Rattle.panel.specs.Calls.{nothing, made}
+use Rattle.panel.specs.Calls.{made, set_up_trials}
 
 set-ups :
-    (made 7 3 1 1 0).refusal ∷ (made 6 3 1 1 0).refusal ∷ (made 0 0 1 1 0).refusal ∷ (made 8 0 1 1 0).refusal ∷ (made 3 1 0 1 0).refusal
-    ∷ (made 3 1 4 1 0).refusal ∷ (made 3 128 1 1 0).refusal ∷ (made 3 1 1 4 0).refusal ∷ []
+    code (made 7 3 1 1 0) ∷ code (made 6 3 1 1 0) ∷ code (made 0 0 1 1 0) ∷ code (made 8 0 1 1 0) ∷ code (made 3 1 0 1 0)
+    ∷ code (made 3 1 4 1 0) ∷ code (made 3 128 1 1 0) ∷ code (made 3 1 1 4 0) ∷ []
     ≡ 0 ∷ 1 ∷ 1 ∷ 1 ∷ 1 ∷ 1 ∷ 1 ∷ 4 ∷ []
-unfolding made fits is_panel ite both nothing fresh empty_line
+unfolding made set_up_trials met fits is_panel ite both fresh empty_line
 set-ups = refl

@@ -6,6 +6,8 @@ use Rattle.messages.specs.Area.{Area}
 use Rattle.panel.specs.Calls.{Called}
 use Rattle.panel.proofs.Panel.set_up.Kinds as set-up-kinds
 use Rattle.panel.proofs.Panel.set_up.Reads as set_up
+use Rattle.panel.proofs.Panel.nothing.Kinds as nothing-kinds
+use Rattle.panel.proofs.Panel.nothing.Reads as no-panel
 use Rattle.panel.proofs.Panel.in_form.Kinds as in-form-kinds
 use Rattle.panel.proofs.Panel.in_form.Reads as in-form
 use Rattle.panel.proofs.Panel.after_write.Kinds as after-write-kinds
@@ -31,6 +33,9 @@ use Rattle.panel.proofs.Panel.proceed_from.Reads as proceed-from
 
 pub set-up-only : OneResult 0 set-up-kinds.ps set-up-kinds.r set_up.Post
 set-up-only κs a x y e f p q = p ∙ sym q
+
+pub nothing-only : OneResult 0 nothing-kinds.ps nothing-kinds.r no-panel.Post
+nothing-only κs a x y e f p q = p ∙ sym q
 
 pub in-form-only : OneResult 0 in-form-kinds.ps in-form-kinds.r in-form.Post
 in-form-only κs a x y e f p q = p ∙ sym q

@@ -1,13 +1,14 @@
 -- What a panel's calls come to: the next panel, the result and what is sent; or, with a lent message area, the outcome and the
 -- area afterwards.
 -- Assumes nothing.
-use Rattle.std.specs.Prelude.{ℕ, length}
-use Rattle.basics.specs.Choice.{ite}
+use Rattle.std.specs.Prelude.{ℕ, not, List, [], ◌∷◌, length, Result, Ok}
+use Rattle.basics.specs.Refusal.{Trial, refuse, met, and_then}
+use Rattle.basics.specs.declared.refused.Refusal.{Refusal, TheVariants.{OutOfRange, NoSuchPanel}}
 use Rattle.messages.specs.{Area.{Area, laid_in, room_of}, Sends.messages_of}
 use Rattle.form.specs.{Form.{fits, is_panel, fresh}, declared.Tables.Tables}
 use Rattle.refusals.specs.Refusals.{Event}
 use Rattle.events.specs.{Events.happens, declared.Done.Done}
-use Rattle.panel.specs.declared.{Made.Made, Next.Next, Outcome.Outcome, Panel.Panel}
+use Rattle.panel.specs.declared.{Next.Next, Outcome.Outcome, Panel.Panel}
 
 abbrev pub panel_of : Tables → Panel
 panel_of t = record { tables = t }
@@ -39,15 +40,13 @@ called p e a = told (happens p.tables (room_of a) e) a
 
 -- ---- set-up
 
--- what set-up leaves where it refuses: a panel of zeros
+-- a panel of zeros, as it stands where set-up makes none
 unfoldable pub nothing : Panel
 nothing = panel_of (fresh 0 0 0 0 0)
 
 -- set-up of a lone panel: 1 for n, t or writer, then 4 for its number
-unfoldable pub made : ℕ → ℕ → ℕ → ℕ → ℕ → Made
-made n t writer number initial =
-    ite (fits n t writer)
-    (ite (is_panel n number)
-    (record { refusal = 0; panel = panel_of (fresh n t writer number initial) })
-    (record { refusal = 4; panel = nothing }))
-    (record { refusal = 1; panel = nothing })
+unfoldable pub set_up_trials : ℕ → ℕ → ℕ → ℕ → List Trial
+set_up_trials n t writer number = refuse OutOfRange (not (fits n t writer)) ∷ refuse NoSuchPanel (not (is_panel n number)) ∷ []
+
+unfoldable pub made : ℕ → ℕ → ℕ → ℕ → ℕ → Result Panel Refusal
+made n t writer number initial = and_then (met (set_up_trials n t writer number)) (Ok (panel_of (fresh n t writer number initial)))

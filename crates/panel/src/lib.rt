@@ -10,6 +10,7 @@ ghost use Rattle.form.specs.Form.{in_form};
 ghost use Rattle.refusals.specs.Refusals.Event.{write, read, write_from, read_from, proceed_from};
 ghost use Rattle.panel.specs.Calls.{Called, after, called, made, next_of, nothing, told};
 
+use basics::Refusal;
 use events::{Answer, Done};
 use form::Tables;
 use messages::Sends;
@@ -35,67 +36,47 @@ pub struct Outcome {
     pub count: usize,
 }
 
-// What set-up makes: a panel and 0, or the number of a refusal and a panel of zeros.
-#[derive(Clone, Copy)]
-pub struct Made {
-    pub refusal: u8,
-    pub panel: Panel,
-}
-
-fn not_made(k: u8) -> Made
-    ensures { result ≡ record { refusal = k; panel = nothing } }
-{
-    Made {
-        refusal: k,
-        panel: Panel {
-            tables: form::fresh(0, 0, 0, 0, 0),
-        },
-    }
-}
-
 fn next_of(d: Done) -> Next
     ensures { result ≡ next_of d }
 {
-    let tables = d.tables;
-    let answer = d.answer;
-    let sends = d.sends;
     Next {
-        panel: Panel { tables },
-        answer,
-        sends,
+        panel: Panel { tables: d.tables },
+        answer: d.answer,
+        sends: d.sends,
     }
 }
 
 fn tell(d: Done, receivers: &mut [u8], kinds: &mut [u8], values: &mut [u32]) -> Outcome
     ensures { record { outcome = result; area = record { receivers = receivers.new; kinds = kinds.new; values = values.new } } ≡ told d (record { receivers = receivers.old; kinds = kinds.old; values = values.old }) }
 {
-    let tables = d.tables;
-    let answer = d.answer;
-    let sends = d.sends;
-    let count = messages::lay(sends, receivers, kinds, values);
+    let count = messages::lay(d.sends, receivers, kinds, values);
     Outcome {
-        panel: Panel { tables },
-        answer,
+        panel: Panel { tables: d.tables },
+        answer: d.answer,
         count,
     }
 }
 
 impl Panel {
-    pub fn set_up(n: u8, t: u8, writer: u8, number: u8, initial: u32) -> Made
+    // A panel of zeros: what stands in a place that has no panel.
+    #[tactic(auto, unfolding(crate::specs::Calls::nothing))]
+    pub fn nothing() -> Panel
+        ensures { result ≡ nothing }
+    {
+        Panel {
+            tables: form::fresh(0, 0, 0, 0, 0),
+        }
+    }
+
+    #[tactic(auto, using(basics::proofs::Refusals::in_turn), unfolding(crate::specs::Calls::made, crate::specs::Calls::set_up_trials))]
+    pub fn set_up(n: u8, t: u8, writer: u8, number: u8, initial: u32) -> Result<Panel, Refusal>
         ensures { result ≡ made n t writer number initial }
     {
-        if !form::fits(n, t, writer) {
-            return not_made(1);
-        }
-        if !form::is_panel(n, number) {
-            return not_made(4);
-        }
-        Made {
-            refusal: 0,
-            panel: Panel {
-                tables: form::fresh(n, t, writer, number, initial),
-            },
-        }
+        Refusal::OutOfRange.when(!form::fits(n, t, writer))?;
+        Refusal::NoSuchPanel.when(!form::is_panel(n, number))?;
+        Ok(Panel {
+            tables: form::fresh(n, t, writer, number, initial),
+        })
     }
 
     pub fn in_form(self) -> bool

@@ -1,4 +1,4 @@
--- What the look at the operation leaves: nothing but the operation changes, it refuses nothing, and an operation that stays open has
+-- What the look at the operation leaves: nothing but the operation changes, and an operation that stays open has
 -- its wait still to be met.
 -- Assumes nothing.
 use mathlib.Core.{Bool.{Bool, true}, Path.{◌≡◌, refl, sym, subst}}
@@ -10,7 +10,7 @@ use Rattle.tables.{proofs.Quorum.enough-more, specs.Marks.{has_w, reaches_w, has
 use Rattle.form.{proofs.InForm.InForm, specs.Form.{at_writer, operation_ok}, specs.Setting.{own_place, own_w, own_r, set_operation}}
 use Rattle.form.specs.declared.{Operation.Operation, Operation.TheVariants.{Idle, Writing, FirstWait, SecondWait}, Tables.Tables}
 use Rattle.events.specs.{Look.{look_writing, look_second, look_first, look_as, look}, declared.Looked.Looked}
-use Rattle.promise.specs.View.{view_of, code_of, WaitsAs, Waits}
+use Rattle.promise.specs.View.{view_of, WaitsAs, Waits}
 
 module _ (p : Tables) where
   -- ---- what holds of the panel with any operation holds of it after the look
@@ -34,23 +34,6 @@ module _ (p : Tables) where
   pub look-view : view_of (look p).tables ≡ view_of p
   unfolding view_of
   look-view = look-keeps (λ (q : Tables). view_of q ≡ view_of p) (λ o. refl)
-
-  -- ---- the look refuses nothing
-
-  second-code : (sn : WriteNo) → code_of (look_second p sn).answer ≡ 0
-  unfolding look_second code_of
-  second-code sn = ite-case (λ (l : Looked). code_of l.answer ≡ 0) _ _ _ (λ _. refl) (λ _. refl)
-
-  as_code : (o : Operation) → code_of (look_as o p).answer ≡ 0
-  unfolding look_as look_writing look_first code_of
-  as_code Idle = refl
-  as_code Writing = ite-case (λ (l : Looked). code_of l.answer ≡ 0) _ _ _ (λ _. refl) (λ _. refl)
-  as_code FirstWait = ite-case (λ (l : Looked). code_of l.answer ≡ 0) _ _ _ (λ _. second-code _) (λ _. refl)
-  as_code (SecondWait sn) = second-code sn
-
-  pub look-code : code_of (look p).answer ≡ 0
-  unfolding look
-  look-code = as_code p.operation
 
   -- ---- an operation that stays open waits
 

@@ -4,10 +4,10 @@
 use mathlib.Core.{Bool.{Bool, true, false, not}, List.{List, [], ◌∷◌, ◌++◌}, Logic.{◌≢◌, ◌⊎◌, inl, inr}, Path.{◌≡◌, refl, sym, ap, ◌∙◌}}
 use Prim.Native.Nat.{ℕ, suc, ◌+◌, ◌-◌, ◌%◌, ◌≤◌, ◌<◌}
 use native.Mathlib.Omega.{arith}
-use lib.Dec.{leb, eqb, lit<}
+use lib.Dec.{leb, eqb}
 use borrow.Author.Tests.{eq-eqb, ne_eqb, eqb-true, lt-leb, le-ltb}
 use Rattle.basics.proofs.{Choices.{clash, not_so, ite-true, ite-false, both_left, both_right, both_true, both-false-right}, Ones.one-false}
-use Rattle.basics.{proofs.Refusals.first_past, specs.Below.one_if, specs.Refusal.{Trial, first_of}}
+use Rattle.basics.{proofs.Refusals.first_past, specs.Below.one_if, specs.Refusal.{Trial, first_of, refuse, number_of}, specs.declared.refused.Refusal.{Refusal, TheVariants.{NotTheWriter, Unfinished, UsedUp, StrayWrite, StrayProceed, LineFull}}}
 use Rattle.tables.specs.Places.{w_at, r_at, hold_at, line_at}
 use Rattle.form.{proofs.InForm.{InForm, form_of, panel-iff}, specs.Form.at_writer, specs.Setting.{own_place, own_w, own_r}}
 use Rattle.form.specs.declared.Tables.{Tables}
@@ -76,20 +76,20 @@ module _ (p : Tables) (f : InForm p) where
 
   behind-first : (us : List Trial) → first_of (first_trials p 107 ++ us) ≡ first_of us
   unfolding first_trials
-  behind-first us = first_past (first_trials p 107) us (lit< tt, (lit< tt, tt)) first_passes
+  behind-first us = first_past (first_trials p 107) us first_passes
 
   pub write-refusal :
       (v : ℕ) → refusal p 107 (write v)
-      ≡ first_of (record { number = 6; given = not (at_writer p) }
-      ∷ record { number = 7; given = not (is_idle p.operation) }
-      ∷ record { number = 8; given = leb 200 (own_w p) }
+      ≡ first_of (refuse NotTheWriter (not (at_writer p))
+      ∷ refuse Unfinished (not (is_idle p.operation))
+      ∷ refuse UsedUp (leb 200 (own_w p))
       ∷ [])
   unfolding refusal trials write_trials
   write-refusal v = behind-first _
 
   pub read-refusal :
       refusal p 107 read
-      ≡ first_of (record { number = 7; given = not (is_idle p.operation) } ∷ record { number = 8; given = leb 100 (own_r p) } ∷ [])
+      ≡ first_of (refuse Unfinished (not (is_idle p.operation)) ∷ refuse UsedUp (leb 100 (own_r p)) ∷ [])
   unfolding refusal trials read_trials
   read-refusal = behind-first _
 
@@ -100,28 +100,28 @@ module _ (p : Tables) (f : InForm p) where
     peer-passes = sym (peer-0 p 107 j first_passes peer)
 
     -- one test stands behind those of a peer
-    abbrev with-last : ℕ → Bool → ℕ
-    with-last k b = first_of (peer_trials p 107 j ++ (record { number = k; given = b } ∷ []))
+    abbrev with-last : Refusal → Bool → ℕ
+    with-last r b = first_of (peer_trials p 107 j ++ (refuse r b ∷ []))
 
-    last-met : (k : ℕ) (b : Bool) → (with-last k b ≡ 0) ⊎ (with-last k b ≡ k)
+    last-met : (r : Refusal) (b : Bool) → (with-last r b ≡ 0) ⊎ (with-last r b ≡ number_of r)
     last-met k true = inr (sym (more_given p 107 j k true peer-passes refl))
     last-met k false = inl (sym (more-0 p 107 j k false peer-passes refl))
 
     pub write-from-met : (b : Bool) (v : ℕ) → (refusal p 107 (write_from j b v) ≡ 0) ⊎ (refusal p 107 (write_from j b v) ≡ 11)
     unfolding refusal trials write_from_trials
-    write-from-met b v = last-met 11 (stray p (j - 1) b)
+    write-from-met b v = last-met StrayWrite (stray p (j - 1) b)
 
     pub read-from-met : (refusal p 107 (read_from j) ≡ 0) ⊎ (refusal p 107 (read_from j) ≡ 13)
     unfolding refusal trials read_from_trials
-    read-from-met = last-met 13 (line_full p (j - 1))
+    read-from-met = last-met LineFull (line_full p (j - 1))
 
     pub proceed-from-met : (refusal p 107 (proceed_from j) ≡ 0) ⊎ (refusal p 107 (proceed_from j) ≡ 12)
     unfolding refusal trials proceed_from_trials
-    proceed-from-met = last-met 12 (eqb (r_at p.r (j - 1)) (own_r p))
+    proceed-from-met = last-met StrayProceed (eqb (r_at p.r (j - 1)) (own_r p))
 
     not-stray : (b : Bool) (v : ℕ) → stray p (j - 1) b ≡ false → refusal p 107 (write_from j b v) ≡ 0
     unfolding refusal trials write_from_trials
-    not-stray b v s = sym (more-0 p 107 j 11 (stray p (j - 1) b) peer-passes s)
+    not-stray b v s = sym (more-0 p 107 j StrayWrite (stray p (j - 1) b) peer-passes s)
 
     -- WRITE of the right bit: its number is w[j]+1
     pub write-from-accepted :
@@ -148,8 +148,8 @@ module _ (p : Tables) (f : InForm p) where
 
     pub read-from-accepted : (view_of p).waiting (j - 1) < 100 → refusal p 107 (read_from j) ≡ 0
     unfolding refusal trials read_from_trials view_of line_full
-    read-from-accepted h = sym (more-0 p 107 j 13 (line_full p (j - 1)) peer-passes (both-false-right _ (lt-leb 100 (line_at p.lines (j - 1)).len h)))
+    read-from-accepted h = sym (more-0 p 107 j LineFull (line_full p (j - 1)) peer-passes (both-false-right _ (lt-leb 100 (line_at p.lines (j - 1)).len h)))
 
     pub proceed-from-accepted : (view_of p).r (j - 1) ≢ (view_of p).r (own_place p) → refusal p 107 (proceed_from j) ≡ 0
     unfolding refusal trials proceed_from_trials view_of
-    proceed-from-accepted n = sym (more-0 p 107 j 12 (eqb (r_at p.r (j - 1)) (own_r p)) peer-passes (ne_eqb _ _ n))
+    proceed-from-accepted n = sym (more-0 p 107 j StrayProceed (eqb (r_at p.r (j - 1)) (own_r p)) peer-passes (ne_eqb _ _ n))

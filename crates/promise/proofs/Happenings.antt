@@ -6,16 +6,18 @@ use Prim.Native.Nat.{ℕ, ◌-◌, ◌≤◌}
 use native.Mathlib.Omega.{arith}
 use lib.{Dec.eqb, ListN.length}
 use borrow.Author.Tests.{eqb-true, eqb-false}
-use Rattle.basics.proofs.Choices.{ite-case}
+use Rattle.basics.{proofs.Choices.ite-case, proofs.Refusals.{unless-case, unless-passed}, specs.Refusal.first_of}
 use Rattle.messages.{proofs.Messages.messages-of-none, specs.Sends.{Message, messages_of, no_sends}}
 use Rattle.form.specs.{Setting.own_place, declared.Tables.Tables}
-use Rattle.refusals.specs.Refusals.{Event, right_bit, refusal, Event.{write, read, write_from, read_from, proceed_from}}
-use Rattle.events.proofs.{Coming.{rule-takes, rule-holds}, Fitting.sends-fit, Happening.{happens-refused, happens-taken}}
+use Rattle.refusals.specs.Refusals.{Event, right_bit, trials, refusal, Event.{write, read, write_from, read_from, proceed_from}}
+use Rattle.events.proofs.{Coming.{rule-takes, rule-holds}, Fitting.sends-fit}
 use Rattle.events.{proofs.Kept.{Good, peer-place}, proofs.KeptPeers.PeerPlace, specs.Events.{rule, looked_at, refused_by, happens}}
+use Rattle.std.specs.Prelude.{Option, Ok, Some, None}
+use Rattle.events.specs.declared.Finished.{Finished, TheVariants.{Wrote, Gave}}
 use Rattle.events.specs.{Rules.{take_rule, hold_rule}, declared.Done.Done, declared.Ruled.Ruled}
 use Rattle.protocol.specs.{Promise.{Writes, Reads, WriteComes, WriteWaits, ReadComes, ProceedComes}, World.{View, Out}}
 use Rattle.promise.specs.{Facts.{AllTo, none}, View.{view_of, out_of, code_of, Waits}}
-use Rattle.promise.proofs.AfterLook.{look-view, look-code, look-waits}
+use Rattle.promise.proofs.AfterLook.{look-view, look-waits}
 use Rattle.promise.proofs.Answers.{write-from-told, read-from-told, proceed-from-told, stray-free}
 use Rattle.promise.proofs.Coming.{hold-waits, hold-sends-to, read_comes, read-from-sends-to, proceed_comes, proceed-sends-to}
 use Rattle.promise.proofs.{Receivers.{SendsTo, all-messages}, Starting.{write-starts, write-sends-to, read-starts, read-sends-to}}
@@ -23,33 +25,35 @@ use Rattle.promise.proofs.TakesAll.{take-comes, take-sends-to}
 
 -- ---- refused, or not
 
+-- what finishes is no refusal
+pub code-ok : (f : Option Finished) → code_of (Ok f) ≡ 0
+unfolding code_of
+code-ok None = refl
+code-ok (Some (Wrote x)) = refl
+code-ok (Some (Gave x v)) = refl
+
 module _ (p : Tables) (room : ℕ) (e : Event) where
   -- the answer's number is that of the refusal
   pub code_is : code_of (happens p room e).answer ≡ refusal p room e
-  unfolding happens looked_at refused_by code_of
-  code_is =
-      ite-case (λ (d : Done). code_of d.answer ≡ refusal p room e) _ _ _
-      (λ z. look-code (rule p e).tables ∙ sym (eqb-true _ _ z))
-      (λ _. refl)
+  unfolding happens looked_at refused_by code_of refusal
+  code_is = unless-case (λ (d : Done). code_of d.answer ≡ first_of (trials p room e)) (trials p room e) _ _ (λ z. code-ok _ ∙ sym z) (λ r f. sym f)
 
   module _ (no : refusal p room e ≢ 0) where
-    refused : happens p room e ≡ refused_by p (refusal p room e)
-    refused = sym (happens-refused p room e (refusal p room e) refl no)
-
     pub refused-tables : (happens p room e).tables ≡ p
-    unfolding refused_by
-    refused-tables = ap (λ (d : Done). d.tables) refused
+    unfolding happens refused_by refusal
+    refused-tables = unless-case (λ (d : Done). d.tables ≡ p) (trials p room e) _ _ (λ z. absurd (no z)) (λ _ _. refl)
 
     pub refused-sends : (happens p room e).sends ≡ no_sends
-    unfolding refused_by
-    refused-sends = ap (λ (d : Done). d.sends) refused
+    unfolding happens refused_by refusal
+    refused-sends = unless-case (λ (d : Done). d.sends ≡ no_sends) (trials p room e) _ _ (λ z. absurd (no z)) (λ _ _. refl)
 
     pub refused-messages : messages_of (happens p room e).sends ≡ []
     refused-messages = ap messages_of refused-sends ∙ messages-of-none
 
   module _ (z : refusal p room e ≡ 0) where
     pub accepted : happens p room e ≡ looked_at (rule p e)
-    accepted = sym (happens-taken p room e 0 (sym z) refl (rule p e) refl)
+    unfolding happens refusal
+    accepted = unless-passed (trials p room e) _ _ z
 
     accepted-view : view_of (happens p room e).tables ≡ view_of (rule p e).tables
     unfolding looked_at
@@ -151,15 +155,15 @@ module _ (p : Tables) (g : Good p) (room : ℕ) where
 
   -- whether the event is refused or not: each goes to another panel, and they fit into the area
   pub all-to-peers : (e : Event) → AllTo p.n p.number (messages_of (happens p room e).sends)
-  unfolding happens looked_at refused_by
+  unfolding happens looked_at refused_by refusal
   all-to-peers e =
-      ite-case (λ (d : Done). AllTo p.n p.number (messages_of d.sends)) _ _ _
-      (λ z. all-messages p.n p.number (rule p e).sends (rule-sends-to e (eqb-true _ _ z)))
-      (λ _. subst (λ (ms : List Message). AllTo p.n p.number ms) (sym messages-of-none) none)
+      unless-case (λ (d : Done). AllTo p.n p.number (messages_of d.sends)) (trials p room e) _ _
+      (λ z. all-messages p.n p.number (rule p e).sends (rule-sends-to e z))
+      (λ _ _. subst (λ (ms : List Message). AllTo p.n p.number ms) (sym messages-of-none) none)
 
   pub messages-fit : (e : Event) → length (messages_of (happens p room e).sends) ≤ 107
-  unfolding happens looked_at refused_by
+  unfolding happens looked_at refused_by refusal
   messages-fit e =
-      ite-case (λ (d : Done). length (messages_of d.sends) ≤ 107) _ _ _
-      (λ z. sends-fit p room e g (eqb-true _ _ z))
-      (λ _. omega (arith, ap (λ (ms : List Message). length ms) messages-of-none))
+      unless-case (λ (d : Done). length (messages_of d.sends) ≤ 107) (trials p room e) _ _
+      (λ z. sends-fit p room e g z)
+      (λ _ _. omega (arith, ap (λ (ms : List Message). length ms) messages-of-none))

@@ -4,10 +4,10 @@ use mathlib.Core.{List.List, Path.{◌≡◌, refl, ◌∙◌}}
 use Prim.Native.Nat.{ℕ, ◌+◌, ◌-◌}
 use native.Mathlib.Omega.{arith}
 use lib.{ListN.{get_or, set}, Seq.get_or-set_other}
-use Rattle.basics.proofs.Choices.{ite-case}
+use Rattle.basics.proofs.{Choices.ite-case, Refusals.unless-case}
 use Rattle.tables.specs.{Places.{hold_at, no_hold}, declared.Hold.Hold, declared.Line.Line, declared.ReadNo.ReadNo, declared.WriteNo.WriteNo}
 use Rattle.form.specs.{Setting.{own_w, set_held}, declared.Operation.Operation, declared.Tables.Tables}
-use Rattle.refusals.specs.Refusals.{Event, Event.{write, read, write_from, read_from, proceed_from}}
+use Rattle.refusals.specs.Refusals.{trials, Event, Event.{write, read, write_from, read_from, proceed_from}}
 use Rattle.events.specs.Events.{rule, looked_at, refused_by, happens}
 use Rattle.events.specs.Rules.{value_of, learned, reached, take, take_held, released, take_rule, write_rule, read_rule, hold_rule, read_from_rule, proceed_rule}
 use Rattle.events.specs.declared.{Done.Done, Ruled.Ruled, Took.Took}
@@ -74,7 +74,7 @@ rule-setting p (proceed_from j) = changed-setting p _ _ _ _ _ _ refl
 pub setting_kept : (p : Tables) (room : ℕ) (e : Event) → SameSetting p (happens p room e).tables
 unfolding happens looked_at refused_by
 setting_kept p room e =
-    ite-case (λ (d : Done). SameSetting p d.tables) _ _ _
+    unless-case (λ (d : Done). SameSetting p d.tables) (trials p room e) _ _
     (λ _. setting-then (rule-setting p e)
     (look-keeps (rule p e).tables (λ (q : Tables). SameSetting (rule p e).tables q) (λ o. changed-setting (rule p e).tables _ _ _ _ _ o refl)))
-    (λ _. same-setting p)
+    (λ _ _. same-setting p)

@@ -1,13 +1,13 @@
 -- A panel's tables, what it sends and its answer in the words of the protocol: numbers by place, counts by place and kind.
 -- Assumes nothing.
-use Rattle.std.specs.Prelude.{ℕ, ◌+◌}
+use Rattle.std.specs.Prelude.{ℕ, ◌+◌, Ok, Err, Some, None}
 use mathlib.Core.{Bool.false, Path.◌≡◌}
-use Rattle.basics.specs.Below.{one_if}
+use Rattle.basics.specs.{Below.one_if, Refusal.number_of}
 use Rattle.messages.specs.{Sends.{cast_of, messages_of}, Tally.tally, declared.Cast.Cast, declared.Sends.Sends}
 use Rattle.tables.specs.{Marks.{has_w, reaches_w, has_r, enough}, Places.{w_at, r_at, hold_at, line_at}}
 use Rattle.form.specs.{Setting.{own_w, own_r}, declared.Operation.Operation}
 use Rattle.form.specs.declared.{Operation.TheVariants.{Idle, Writing, FirstWait, SecondWait}, Tables.Tables}
-use Rattle.events.specs.declared.Answer.{Answer, TheVariants.{Refused, Nothing, Wrote, Gave}}
+use Rattle.events.specs.{Events.Answer, declared.Finished.TheVariants.{Wrote, Gave}}
 use Rattle.protocol.specs.World.{View, Out}
 
 -- the numbers of a panel, by place
@@ -29,10 +29,10 @@ out_of s l k = tally (messages_of s) (l + 1) k
 
 -- the number of the refusal, 0 for none
 unfoldable pub code_of : Answer → ℕ
-code_of (Refused k) = k
-code_of Nothing = 0
-code_of (Wrote x) = 0
-code_of (Gave x v) = 0
+code_of (Err r) = number_of r
+code_of (Ok None) = 0
+code_of (Ok (Some (Wrote x))) = 0
+code_of (Ok (Some (Gave x v))) = 0
 
 -- the wait of an open operation is not met: lines 3, 7 and 9
 abbrev pub WaitsAs : Operation → Tables → Type 0

@@ -1,4 +1,5 @@
-pub mod Places
+pub mod Behind
+pub mod Steps
 pub mod RecordSteps
 pub mod MessageSteps
 pub mod Outcomes

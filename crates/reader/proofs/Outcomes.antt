@@ -10,17 +10,19 @@ use types.Logic.{Logic}
 use contract.{Lifetimes.Lfts, Monad.{Fun, fact}}
 use denote.{MutBor.MutBor, Ref.Bor}
 use Rattle.basics.specs.Outcome.{OneResult}
-use Rattle.schedule.specs.declared.Read.{Read}
+use Rattle.std.specs.Prelude.{Result}
+use Rattle.basics.specs.declared.refused.Refusal.{Refusal}
+use Rattle.schedule.specs.declared.Unread.{Unread}
+use Rattle.schedule.specs.declared.Taken as Scheduled
 use Rattle.wire.specs.declared.Taken.{Taken}
-use Rattle.reader.specs.declared.records.Reader as records
-use Rattle.reader.specs.declared.wire_messages.Reader as messages
+use Rattle.reader.specs.declared.Reader.{Reader}
+use Rattle.reader.specs.Reading.{Next, started}
 use Rattle.reader.specs.Records as OfRecords
 use Rattle.reader.specs.Messages as OfMessages
-use Rattle.reader.specs.contracts.records.new as new-records
+use Rattle.reader.specs.contracts.new as new-reader
 use Rattle.reader.specs.contracts.records.next as next-record
 use Rattle.reader.proofs.records.record_at.Kinds as record-at-kinds
 use Rattle.reader.proofs.records.record_at.Reads as record-at
-use Rattle.reader.specs.contracts.wire_messages.new as new-messages
 use Rattle.reader.specs.contracts.wire_messages.next as next-message
 use Rattle.reader.proofs.wire_messages.message_at.Kinds as message-at-kinds
 use Rattle.reader.proofs.wire_messages.message_at.Reads as message-at
@@ -31,42 +33,40 @@ record-at-only κs a x y e f p q = p ∙ sym q
 pub message-at-only : OneResult 1 message-at-kinds.ps message-at-kinds.r message-at.Post
 message-at-only κs a x y e f p q = p ∙ sym q
 
+-- ---- `new`, one function under the names of both modules
+
+module _ {M : Type 1} {𝓤 : Ura M} (𝓛 : Logic 𝓤) (mem : Memory → SProp 𝓤) (run : Routine → Fun 𝓤) where
+  pub new-says : (κs : Lfts 1) (s : Bor (List ℕ)) (r : Reader) → new-reader.ensures-1 𝓛 κs mem run s (record { entry = s; exit = s }) r ≡ fact 𝓤 (r ≡ started s)
+  new-says κs s r = refl
+
+pub new-records-only : (s : Bor (List ℕ)) {r q : Reader} → r ≡ started s → q ≡ started s → r ≡ q
+new-records-only s e f = e ∙ sym f
+
+pub new-messages-only : (s : Bor (List ℕ)) {r q : Reader} → r ≡ started s → q ≡ started s → r ≡ q
+new-messages-only s e f = e ∙ sym f
+
 -- ---- records
 
 module _ {M : Type 1} {𝓤 : Ura M} (𝓛 : Logic 𝓤) (mem : Memory → SProp 𝓤) (run : Routine → Fun 𝓤) where
-  pub new-records-says : (κs : Lfts 1) (s : Bor (List ℕ)) (r : records.Reader)
-      → new-records.ensures-1 𝓛 κs mem run s (record { entry = s; exit = s }) r ≡ fact 𝓤 (r ≡ OfRecords.started s)
-  new-records-says κs s r = refl
-
   pub next-record-says :
-      (κs : Lfts 2) (r q : MutBor records.Reader) (a : Read) →
+      (κs : Lfts 2) (r q : MutBor Reader) (a : Result Scheduled.Taken Unread) →
       next-record.ensures-1 𝓛 κs mem run r (record { entry = r; exit = q }) a ≡ fact 𝓤 (record { read = a; reader = q.now } ≡ OfRecords.next r.now)
   next-record-says κs r q a = refl
 
-pub new-records-only : (s : Bor (List ℕ)) {r q : records.Reader} → r ≡ OfRecords.started s → q ≡ OfRecords.started s → r ≡ q
-new-records-only s e f = e ∙ sym f
-
 pub next-record-only :
-    (h : records.Reader) {a b : Read} {r q : records.Reader} →
+    (h : Reader) {a b : Result Scheduled.Taken Unread} {r q : Reader} →
     record { read = a; reader = r } ≡ OfRecords.next h → record { read = b; reader = q } ≡ OfRecords.next h → (a ≡ b) × (r ≡ q)
-next-record-only h e f = (ap (λ (n : OfRecords.Next). n.read) (e ∙ sym f), ap (λ (n : OfRecords.Next). n.reader) (e ∙ sym f))
+next-record-only h e f = (ap (λ (n : Next Scheduled.Taken Unread). n.read) (e ∙ sym f), ap (λ (n : Next Scheduled.Taken Unread). n.reader) (e ∙ sym f))
 
 -- ---- messages
 
 module _ {M : Type 1} {𝓤 : Ura M} (𝓛 : Logic 𝓤) (mem : Memory → SProp 𝓤) (run : Routine → Fun 𝓤) where
-  pub new-messages-says : (κs : Lfts 1) (s : Bor (List ℕ)) (r : messages.Reader)
-      → new-messages.ensures-1 𝓛 κs mem run s (record { entry = s; exit = s }) r ≡ fact 𝓤 (r ≡ OfMessages.started s)
-  new-messages-says κs s r = refl
-
   pub next-message-says :
-      (κs : Lfts 2) (r q : MutBor messages.Reader) (a : Taken) →
-      next-message.ensures-1 𝓛 κs mem run r (record { entry = r; exit = q }) a ≡ fact 𝓤 (record { taken = a; reader = q.now } ≡ OfMessages.next r.now)
+      (κs : Lfts 2) (r q : MutBor Reader) (a : Result Taken Refusal) →
+      next-message.ensures-1 𝓛 κs mem run r (record { entry = r; exit = q }) a ≡ fact 𝓤 (record { read = a; reader = q.now } ≡ OfMessages.next r.now)
   next-message-says κs r q a = refl
 
-pub new-messages-only : (s : Bor (List ℕ)) {r q : messages.Reader} → r ≡ OfMessages.started s → q ≡ OfMessages.started s → r ≡ q
-new-messages-only s e f = e ∙ sym f
-
 pub next-message-only :
-    (h : messages.Reader) {a b : Taken} {r q : messages.Reader} →
-    record { taken = a; reader = r } ≡ OfMessages.next h → record { taken = b; reader = q } ≡ OfMessages.next h → (a ≡ b) × (r ≡ q)
-next-message-only h e f = (ap (λ (n : OfMessages.Next). n.taken) (e ∙ sym f), ap (λ (n : OfMessages.Next). n.reader) (e ∙ sym f))
+    (h : Reader) {a b : Result Taken Refusal} {r q : Reader} →
+    record { read = a; reader = r } ≡ OfMessages.next h → record { read = b; reader = q } ≡ OfMessages.next h → (a ≡ b) × (r ≡ q)
+next-message-only h e f = (ap (λ (n : Next Taken Refusal). n.read) (e ∙ sym f), ap (λ (n : Next Taken Refusal). n.reader) (e ∙ sym f))

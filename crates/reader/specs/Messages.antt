@@ -1,31 +1,23 @@
 -- Messages on the wire, read one after the other from lent bytes: "Reading takes one message from the front and says how many
 -- bytes it used."
 -- Assumes nothing.
-use Rattle.std.specs.Prelude.{ℕ, ◌+◌, List, drop}
-use Rattle.std.specs.Borrow.{Bor}
-use Rattle.wire.specs.{Messages.reading, declared.Taken.Taken, declared.Taken.TheVariants.{Message, Refused}}
-use Rattle.reader.specs.declared.wire_messages.{Reader.Reader, Step.Step}
+use Rattle.std.specs.Prelude.{ℕ, List, drop, Result}
+use Rattle.basics.specs.declared.refused.Refusal.{Refusal}
+use Rattle.wire.specs.{Messages.reading, declared.Taken.Taken}
+use Rattle.reader.specs.declared.{Reader.Reader, Step.Step}
+use Rattle.reader.specs.Reading as readings
 
--- how many bytes a message used; a refusal uses none
-unfoldable pub used_of : Taken → ℕ
-used_of (Message k v n) = n
-used_of (Refused r) = 0
+-- the message at the front of the bytes from a place on
+abbrev pub reading_at : List ℕ → ℕ → Result Taken Refusal
+reading_at s at = reading (drop at s)
 
--- what stands at a place, and the place behind it
-unfoldable pub stepped : List ℕ → ℕ → Step
-stepped s at = record { taken = reading (drop at s); at = at + used_of (reading (drop at s)) }
+abbrev pub used : Taken → ℕ
+used t = t.used
+
+-- what stands at a place, and the place behind it; a refusal uses no byte
+abbrev pub stepped : List ℕ → ℕ → Step Taken Refusal
+stepped = readings.stepped reading_at used
 
 -- what is read, and the reader afterwards
-pub record Next : Type 0 where
-  pub taken : Taken
-  pub reader : Reader
-
--- a reader of the same bytes at another place
-abbrev pub moved_to : Reader → ℕ → Reader
-moved_to r at = record { bytes = r.bytes; at = at }
-
-unfoldable pub started : Bor (List ℕ) → Reader
-started s = record { bytes = s; at = 0 }
-
-unfoldable pub next : Reader → Next
-next r = record { taken = (stepped r.bytes.now r.at).taken; reader = moved_to r (stepped r.bytes.now r.at).at }
+abbrev pub next : Reader → readings.Next Taken Refusal
+next = readings.next reading_at used

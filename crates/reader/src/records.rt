@@ -1,53 +1,41 @@
 // Schedule records. `next` is called on a reader; `record_at` takes a plain slice and a place, for callers that keep no reader.
 ghost use Rattle.std.specs.Prelude.{◌≡◌};
-ghost use Rattle.reader.specs.Records.{Next, stepped, started, next};
+ghost use Rattle.schedule.specs.Records.{reading};
+ghost use Rattle.schedule.proofs.Laws.{accepted-within};
+ghost use Rattle.reader.specs.Reading.{Next};
+ghost use Rattle.reader.specs.Records.{used, stepped, next};
 
-use schedule::Read;
+use crate::Item;
+pub use crate::{Reader, Step, new};
+use schedule::{Taken, Unread};
 
-#[derive(Clone, Copy)]
-pub struct Reader<'a> {
-    pub schedule: &'a [u8],
-    pub at: usize,
-}
+impl Item for Taken {
+    type Refused = Unread;
 
-// What stands at a place, and the place behind it.
-#[derive(Clone, Copy)]
-pub struct Step {
-    pub read: Read,
-    pub at: usize,
-}
+    ghost reading = { reading };
 
-fn step_at(schedule: &[u8], at: usize) -> Step
-    ensures { result ≡ stepped schedule.now at }
-{
-    let read = schedule::read_record(schedule, at);
-    let used = read.used;
-    Step {
-        read,
-        at: at + used,
+    ghost used = { used };
+
+    ghost within = { accepted-within };
+
+    fn read(schedule: &[u8], at: usize) -> Result<Taken, Unread> {
+        schedule::read_record(schedule, at)
+    }
+
+    fn used(self) -> usize {
+        self.used
     }
 }
 
-// A reader at the start of a schedule.
-pub fn new<'a>(schedule: &'a [u8]) -> Reader<'a>
-    ensures { result ≡ started schedule.entry }
-{
-    Reader { schedule, at: 0 }
-}
-
 // The next record, or a refusal; the reader keeps its place.
-pub fn next<'s, 'a>(r: &'s mut Reader<'a>) -> Read
+pub fn next<'s, 'a>(r: &'s mut Reader<'a>) -> Result<Taken, Unread>
     ensures { record { read = result; reader = r.new } ≡ next r.old }
 {
-    let s = step_at(r.schedule, r.at);
-    r.at = s.at;
-    s.read
+    crate::next(r)
 }
 
-pub fn record_at(schedule: &[u8], at: usize) -> Step
+pub fn record_at(schedule: &[u8], at: usize) -> Step<Taken, Unread>
     ensures { result ≡ stepped schedule.now at }
 {
-    let mut r = Reader { schedule, at };
-    let read = next(&mut r);
-    Step { read, at: r.at }
+    crate::item_at(schedule, at)
 }

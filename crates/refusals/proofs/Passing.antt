@@ -2,10 +2,11 @@
 -- Assumes nothing.
 use mathlib.Core.{Bool.{Bool, true, false}, List.{[], ◌∷◌, ◌++◌}, Logic.◌≢◌, Path.{◌≡◌, sym, ◌∙◌}}
 use Prim.Native.Nat.{ℕ, ◌+◌, ◌-◌, ◌≤◌, ◌<◌}
-use lib.Dec.{ltb, eqb, lit<}
+use lib.Dec.{ltb, eqb}
 use borrow.Author.Tests.{lt-ltb, ltb-false, leb-false, eqb-false, not-true, not-false}
 use Rattle.basics.proofs.{Choices.{clash, not_so, ite-true, ite-false, both_left, both_right, both_true}, Refusals.{Passes, passed}}
-use Rattle.basics.specs.Refusal.{first_of}
+use Rattle.basics.specs.Refusal.{first_of, refuse}
+use Rattle.basics.specs.declared.refused.Refusal.{Refusal, TheVariants.{StrayWrite, StrayProceed, LineFull}}
 use Rattle.tables.specs.Places.{w_at, r_at, line_at}
 use Rattle.form.{proofs.InForm.panel-iff, specs.Form.{in_form, at_writer}, specs.Setting.{own_w, own_r}, specs.declared.Tables.Tables}
 use Rattle.refusals.specs.Refusals.{is_peer, is_idle, right_bit, too_high, stray, line_full, first_trials, peer_trials, write_trials, read_trials, write_from_trials, read_from_trials, proceed_from_trials}
@@ -21,7 +22,7 @@ pub record MayWrite (p : Tables) (room : ℕ) : Type 0 where
 pub may_write : (p : Tables) (room : ℕ) → first_of (write_trials p room) ≡ 0 → MayWrite p room
 unfolding write_trials first_trials
 may_write p room e =
-    let h : Passes (write_trials p room) = passed (write_trials p room) (lit< tt, (lit< tt, (lit< tt, (lit< tt, (lit< tt, tt))))) e in
+    let h : Passes (write_trials p room) = passed (write_trials p room) e in
     record {
       form = not-false _ h.0;
       roomy = ltb-false _ _ h.1.0;
@@ -40,7 +41,7 @@ pub record MayRead (p : Tables) (room : ℕ) : Type 0 where
 pub may_read : (p : Tables) (room : ℕ) → first_of (read_trials p room) ≡ 0 → MayRead p room
 unfolding read_trials first_trials
 may_read p room e =
-    let h : Passes (read_trials p room) = passed (read_trials p room) (lit< tt, (lit< tt, (lit< tt, (lit< tt, tt)))) e in
+    let h : Passes (read_trials p room) = passed (read_trials p room) e in
     record {
       form = not-false _ h.0;
       roomy = ltb-false _ _ h.1.0;
@@ -69,25 +70,24 @@ come p room j f r h =
 
 module _ (p : Tables) (room j : ℕ) where
   -- with one more test behind those of a peer
-  pub may-come : (k : ℕ) (b : Bool) → 0 < k → first_of (peer_trials p room j ++ (record { number = k; given = b } ∷ [])) ≡ 0 → MayCome p room j × (b ≡ false)
+  pub may-come : (r : Refusal) (b : Bool) → first_of (peer_trials p room j ++ (refuse r b ∷ [])) ≡ 0 → MayCome p room j × (b ≡ false)
   unfolding peer_trials first_trials
-  may-come k b n e =
-      let h : Passes (peer_trials p room j ++ (record { number = k; given = b } ∷ []))
-      = passed (peer_trials p room j ++ (record { number = k; given = b } ∷ [])) (lit< tt, (lit< tt, (lit< tt, (n, tt)))) e in
+  may-come r b e =
+      let h : Passes (peer_trials p room j ++ (refuse r b ∷ [])) = passed (peer_trials p room j ++ (refuse r b ∷ [])) e in
       (come p room j (not-false _ h.0) (ltb-false _ _ h.1.0) (not-false _ h.1.1.0), h.1.1.1.0)
 
   pub may-write-from : (b : Bool) → first_of (write_from_trials p room j b) ≡ 0 → MayCome p room j × (stray p (j - 1) b ≡ false)
   unfolding write_from_trials
-  may-write-from b e = may-come 11 (stray p (j - 1) b) (lit< tt) e
+  may-write-from b e = may-come StrayWrite (stray p (j - 1) b) e
 
   pub may-read-from : first_of (read_from_trials p room j) ≡ 0 → MayCome p room j × (line_full p (j - 1) ≡ false)
   unfolding read_from_trials
-  may-read-from e = may-come 13 (line_full p (j - 1)) (lit< tt) e
+  may-read-from e = may-come LineFull (line_full p (j - 1)) e
 
   pub may-proceed-from : first_of (proceed_from_trials p room j) ≡ 0 → MayCome p room j × (r_at p.r (j - 1) ≢ own_r p)
   unfolding proceed_from_trials
   may-proceed-from e =
-      let h : MayCome p room j × (eqb (r_at p.r (j - 1)) (own_r p) ≡ false) = may-come 12 (eqb (r_at p.r (j - 1)) (own_r p)) (lit< tt) e in
+      let h : MayCome p room j × (eqb (r_at p.r (j - 1)) (own_r p) ≡ false) = may-come StrayProceed (eqb (r_at p.r (j - 1)) (own_r p)) e in
       (h.0, eqb-false _ _ h.1)
 
 -- ---- a WRITE that is not stray

@@ -1,12 +1,13 @@
 -- The events at one panel, and which refusals each meets, in the order in which they are tried.
 -- Assumes nothing.
 use Rattle.std.specs.Prelude.{ℕ, ◌+◌, ◌-◌, ◌%◌}
-use mathlib.Core.{Bool.{Bool, true, false, not}, List.{List, [], ◌∷◌, ◌++◌}}
+use mathlib.Core.{Bool.{Bool, true, not}, List.{List, [], ◌∷◌, ◌++◌}}
 use Rattle.std.specs.Prelude.{leb, ltb, eqb}
 use Rattle.basics.specs.{Below.one_if, Choice.{ite, both}, Refusal.{Trial, refuse, first_of}}
+use Rattle.basics.specs.declared.refused.Refusal.TheVariants.{NotInForm, AreaTooShort, NoSuchPanel, NotTheWriter, Unfinished, UsedUp, StrayWrite, StrayProceed, LineFull}
 use Rattle.tables.specs.Places.{w_at, r_at, hold_at, line_at}
-use Rattle.form.specs.{Form.{in_form, is_panel, at_writer}, Setting.{own_w, own_r}, declared.Operation.Operation}
-use Rattle.form.specs.declared.{Operation.TheVariants.{Idle, Writing, FirstWait, SecondWait}, Tables.Tables}
+use Rattle.form.specs.{Form.{in_form, is_panel, at_writer, idle}, Setting.{own_w, own_r}, declared.Operation.Operation}
+use Rattle.form.specs.declared.Tables.{Tables}
 
 pub data Event : Type 0 where
   write : ℕ → Event
@@ -21,11 +22,8 @@ pub data Event : Type 0 where
 unfoldable pub is_peer : Tables → ℕ → Bool
 is_peer p j = both (is_panel p.n j) (not (eqb j p.number))
 
-unfoldable pub is_idle : Operation → Bool
-is_idle Idle = true
-is_idle Writing = false
-is_idle FirstWait = false
-is_idle (SecondWait sn) = false
+abbrev pub is_idle : Operation → Bool
+is_idle o = idle o
 
 -- the bit is (w[j]+1) mod 2 (line 11)
 unfoldable pub right_bit : Tables → ℕ → Bool → Bool
@@ -46,27 +44,27 @@ line_full p k = both (ltb (w_at p.w k) (own_w p)) (leb 100 (line_at p.lines k).l
 
 -- what every event may meet, and what one from a peer may; room is how many messages the lent area holds
 unfoldable pub first_trials : Tables → ℕ → List Trial
-first_trials p room = refuse 2 (not (in_form p)) ∷ refuse 3 (ltb room 107) ∷ []
+first_trials p room = refuse NotInForm (not (in_form p)) ∷ refuse AreaTooShort (ltb room 107) ∷ []
 
 unfoldable pub peer_trials : Tables → ℕ → ℕ → List Trial
-peer_trials p room j = first_trials p room ++ (refuse 4 (not (is_peer p j)) ∷ [])
+peer_trials p room j = first_trials p room ++ (refuse NoSuchPanel (not (is_peer p j)) ∷ [])
 
 unfoldable pub write_trials : Tables → ℕ → List Trial
 write_trials p room =
-    first_trials p room ++ (refuse 6 (not (at_writer p)) ∷ refuse 7 (not (is_idle p.operation)) ∷ refuse 8 (leb 200 (own_w p)) ∷ [])
+    first_trials p room ++ (refuse NotTheWriter (not (at_writer p)) ∷ refuse Unfinished (not (is_idle p.operation)) ∷ refuse UsedUp (leb 200 (own_w p)) ∷ [])
 
 unfoldable pub read_trials : Tables → ℕ → List Trial
-read_trials p room = first_trials p room ++ (refuse 7 (not (is_idle p.operation)) ∷ refuse 8 (leb 100 (own_r p)) ∷ [])
+read_trials p room = first_trials p room ++ (refuse Unfinished (not (is_idle p.operation)) ∷ refuse UsedUp (leb 100 (own_r p)) ∷ [])
 
 unfoldable pub write_from_trials : Tables → ℕ → ℕ → Bool → List Trial
-write_from_trials p room j b = peer_trials p room j ++ (refuse 11 (stray p (j - 1) b) ∷ [])
+write_from_trials p room j b = peer_trials p room j ++ (refuse StrayWrite (stray p (j - 1) b) ∷ [])
 
 unfoldable pub read_from_trials : Tables → ℕ → ℕ → List Trial
-read_from_trials p room j = peer_trials p room j ++ (refuse 13 (line_full p (j - 1)) ∷ [])
+read_from_trials p room j = peer_trials p room j ++ (refuse LineFull (line_full p (j - 1)) ∷ [])
 
 -- 12: "PROCEED with r[j] = r[i]"
 unfoldable pub proceed_from_trials : Tables → ℕ → ℕ → List Trial
-proceed_from_trials p room j = peer_trials p room j ++ (refuse 12 (eqb (r_at p.r (j - 1)) (own_r p)) ∷ [])
+proceed_from_trials p room j = peer_trials p room j ++ (refuse StrayProceed (eqb (r_at p.r (j - 1)) (own_r p)) ∷ [])
 
 -- "tried from low to high"
 unfoldable pub trials : Tables → ℕ → Event → List Trial

@@ -1,98 +1,66 @@
-// The refusals of each event, tried in the order of their numbers; 0 where there is none.
+// The refusals of each event, tried in the order of their numbers.
 #![tactic(auto)]
 
 ghost use Rattle.std.specs.Prelude.{◌≡◌, ◌-◌, ◌≤◌, ◌<◌};
 ghost use Rattle.form.specs.Form.{in_form, at_writer};
 ghost use Rattle.refusals.specs.Refusals.{is_peer, is_idle, right_bit, too_high, stray, line_full, first_trials, peer_trials, write_trials, read_trials, write_from_trials, read_from_trials, proceed_from_trials};
 ghost use Rattle.tables.specs.Places.{w_at};
-ghost use Rattle.basics.specs.Below.{one_if};
-ghost use Rattle.basics.specs.Refusal.{first_of};
+ghost use Rattle.basics.specs.Refusal.{met};
 ghost use Rattle.form.specs.Asked.{Sized};
 
-use basics::{both, choose, wide};
-use form::{Operation, Tables};
+use basics::{Refusal, both, choose, one_if, wide};
+use form::Tables;
 use tables::WriteNo;
 
-fn is_idle(o: Operation) -> bool
-    ensures { result ≡ is_idle o }
-{
-    match o {
-        Operation::Idle => true,
-        Operation::Writing => false,
-        Operation::FirstWait => false,
-        Operation::SecondWait(_) => false,
-    }
-}
-
 // 2 and 3
-#[tactic(auto, using(crate::proofs::Refusing::firsts))]
-fn refused_first(p: Tables, room: usize) -> u8
-    ensures { result ≡ first_of (first_trials p room) }
+#[tactic(auto, using(basics::proofs::Refusals::in_turn), unfolding(crate::specs::Refusals::first_trials))]
+fn refused_first(p: Tables, room: usize) -> Result<(), Refusal>
+    ensures { result ≡ met (first_trials p room) }
 {
-    if !form::in_form(p) {
-        return 2;
-    }
-    if room < 107 { 3 } else { 0 }
+    Refusal::NotInForm.when(!form::in_form(p))?;
+    Refusal::AreaTooShort.when(room < 107)
 }
 
-// The last write number there is.
+// The last write number there is, and the last number of a panel's own reads.
 const WRITES: u8 = 200;
 
-pub fn refused_write(p: Tables, room: usize) -> u8
-    ensures { result ≡ first_of (write_trials p room) }
+const READS: u8 = 100;
+
+#[tactic(auto, using(basics::proofs::Refusals::in_turn), unfolding(crate::specs::Refusals::write_trials, form::specs::Form::at_writer))]
+pub fn refused_write(p: Tables, room: usize) -> Result<(), Refusal>
+    ensures { result ≡ met (write_trials p room) }
 {
-    let first = refused_first(p, room);
-    if first != 0 {
-        return first;
-    }
-    if p.number != p.writer {
-        return 6;
-    }
-    let o = p.operation;
-    if !is_idle(o) {
-        return 7;
-    }
+    refused_first(p, room)?;
+    Refusal::NotTheWriter.when(p.number != p.writer)?;
+    Refusal::Unfinished.when(!p.operation.is_idle())?;
     let i = wide(p.number) - 1;
-    if WRITES <= p.w[i].0 { 8 } else { 0 }
+    Refusal::UsedUp.when(WRITES <= p.w[i].0)
 }
 
-pub fn refused_read(p: Tables, room: usize) -> u8
-    ensures { result ≡ first_of (read_trials p room) }
+#[tactic(auto, using(basics::proofs::Refusals::in_turn), unfolding(crate::specs::Refusals::read_trials))]
+pub fn refused_read(p: Tables, room: usize) -> Result<(), Refusal>
+    ensures { result ≡ met (read_trials p room) }
 {
-    let first = refused_first(p, room);
-    if first != 0 {
-        return first;
-    }
-    let o = p.operation;
-    if !is_idle(o) {
-        return 7;
-    }
+    refused_first(p, room)?;
+    Refusal::Unfinished.when(!p.operation.is_idle())?;
     let i = wide(p.number) - 1;
-    if 100 <= p.r[i].0 { 8 } else { 0 }
+    Refusal::UsedUp.when(READS <= p.r[i].0)
 }
 
 // 2, 3 and 4
-fn refused_peer(p: Tables, room: usize, j: u8) -> u8
-    ensures { result ≡ first_of (peer_trials p room j) }
+#[tactic(auto, using(basics::proofs::Refusals::in_turn), unfolding(crate::specs::Refusals::peer_trials, crate::specs::Refusals::is_peer))]
+fn refused_peer(p: Tables, room: usize, j: u8) -> Result<(), Refusal>
+    ensures { result ≡ met (peer_trials p room j) }
 {
-    let first = refused_first(p, room);
-    if first != 0 {
-        return first;
-    }
+    refused_first(p, room)?;
     let numbered = form::is_panel(p.n, j);
-    if both(numbered, j != p.number) { 0 } else { 4 }
-}
-
-fn bit_number(bit: bool) -> usize
-    ensures { result ≡ one_if bit }
-{
-    if bit { 1 } else { 0 }
+    Refusal::NoSuchPanel.when(!both(numbered, j != p.number))
 }
 
 fn number_at(ws: [WriteNo; 7], k: usize) -> WriteNo
     ensures { result.0 ≡ w_at ws k }
 {
-    if k < 7 { ws[k] } else { WriteNo(0) }
+    ws.get(k).copied().unwrap_or(WriteNo(0))
 }
 
 pub fn right_bit(p: Tables, k: usize, bit: bool) -> bool
@@ -100,7 +68,7 @@ pub fn right_bit(p: Tables, k: usize, bit: bool) -> bool
 {
     let ws = p.w;
     let x = wide(number_at(ws, k).0);
-    bit_number(bit) == (x + 1) % 2
+    one_if(bit) == (x + 1) % 2
 }
 
 fn too_high(p: Tables, x: usize) -> bool
@@ -123,42 +91,32 @@ fn stray(p: Tables, k: usize, bit: bool) -> bool
     choose(right_bit(p, k, bit), next, held)
 }
 
-pub fn refused_write_from(p: Tables, room: usize, j: u8, bit: bool) -> u8
-    ensures { result ≡ first_of (write_from_trials p room j bit) }
+#[tactic(auto, using(basics::proofs::Refusals::in_turn), unfolding(crate::specs::Refusals::write_from_trials))]
+pub fn refused_write_from(p: Tables, room: usize, j: u8, bit: bool) -> Result<(), Refusal>
+    ensures { result ≡ met (write_from_trials p room j bit) }
 {
-    let first = refused_peer(p, room, j);
-    if first != 0 {
-        return first;
-    }
-    let k = wide(j) - 1;
-    if stray(p, k, bit) { 11 } else { 0 }
+    refused_peer(p, room, j)?;
+    Refusal::StrayWrite.when(stray(p, wide(j) - 1, bit))
 }
 
-pub fn refused_read_from(p: Tables, room: usize, j: u8) -> u8
-    ensures { result ≡ first_of (read_from_trials p room j) }
+#[tactic(auto, using(basics::proofs::Refusals::in_turn), unfolding(crate::specs::Refusals::read_from_trials, crate::specs::Refusals::line_full))]
+pub fn refused_read_from(p: Tables, room: usize, j: u8) -> Result<(), Refusal>
+    ensures { result ≡ met (read_from_trials p room j) }
 {
-    let first = refused_peer(p, room, j);
-    if first != 0 {
-        return first;
-    }
+    refused_peer(p, room, j)?;
     let i = wide(p.number) - 1;
     let k = wide(j) - 1;
-    let l = p.lines[k];
-    if both(p.w[k].0 < p.w[i].0, 100 <= l.len) {
-        13
-    } else {
-        0
-    }
+    let behind = p.w[k].0 < p.w[i].0;
+    let full = 100 <= p.lines[k].len;
+    Refusal::LineFull.when(both(behind, full))
 }
 
-pub fn refused_proceed_from(p: Tables, room: usize, j: u8) -> u8
-    ensures { result ≡ first_of (proceed_from_trials p room j) }
+#[tactic(auto, using(basics::proofs::Refusals::in_turn), unfolding(crate::specs::Refusals::proceed_from_trials))]
+pub fn refused_proceed_from(p: Tables, room: usize, j: u8) -> Result<(), Refusal>
+    ensures { result ≡ met (proceed_from_trials p room j) }
 {
-    let first = refused_peer(p, room, j);
-    if first != 0 {
-        return first;
-    }
+    refused_peer(p, room, j)?;
     let i = wide(p.number) - 1;
     let k = wide(j) - 1;
-    if p.r[k].0 == p.r[i].0 { 12 } else { 0 }
+    Refusal::StrayProceed.when(p.r[k].0 == p.r[i].0)
 }

@@ -2,18 +2,20 @@
 -- writing what was read (`written_read`), no two records share their bytes (`written-injective`), no record's bytes begin
 -- another's (`written-prefix-free`), and what is accepted or refused exactly when. All by the laws of items.
 -- Assumes nothing.
-use mathlib.Core.{Bool.true, List.{List, [], ◌∷◌, ◌++◌}, Logic.{◌⊎◌, inl, inr, ◌↔◌}, Path.{◌≡◌, refl, sym, ap, subst₂, ◌∙◌}}
+use mathlib.Core.{Bool.true, List.{List, [], ◌∷◌, ◌++◌}, Logic.{◌⊎◌, inl, inr, ◌↔◌}, Path.{◌≡◌, refl, sym, ap, subst, ◌∙◌}}
 use Prim.Native.Nat.{ℕ, ◌+◌, ◌^◌, ◌≤◌, ◌<◌}
 use native.Mathlib.Omega.{arith}
-use lib.{Dec.{ltb, lit<}, ListN.{length, get_or, take, drop}}
+use lib.{Dec.{ltb}, ListN.{length, get_or, take, drop}}
 use borrow.Author.Tests.{ltb-true}
+use Rattle.std.specs.Prelude.{Result, Ok, Err}
+use Rattle.basics.specs.declared.refused.Refusal.{Refusal, TheVariants.{UnknownKind, CutShort}}
 use Rattle.basics.{proofs.Choices.{both_true, both_left, both_right}, specs.Choice.ite}
 use Rattle.codec.{proofs.Items.{Whole, Cut, Unknown, FoundAt, standing, item-whole}, specs.Items.{Item, size_of, written, item_at, Proper}}
 use Rattle.codec.specs.Numbers.{Bytes}
 use Rattle.codec.specs.Items as Items
 use Rattle.codec.proofs.Items as items
-use Rattle.schedule.specs.Records.{singles, carries, records, item_of, bytes_of_record, record_of, refusing, answered, reading, clear, writable}
-use Rattle.schedule.specs.declared.{Read.Read, Record.Record}
+use Rattle.schedule.specs.Records.{singles, carries, records, item_of, bytes_of_record, record_of, refusal_of, refusing, answered, reading, clear, writable}
+use Rattle.schedule.specs.declared.{Record.Record, Taken.Taken, Unread.Unread}
 use Rattle.schedule.proofs.Fields.{single-kept, value-kept, row_fits, single-clear, value-clear, single-fits, value-fits, row-whole}
 use Rattle.schedule.proofs.Lengths.{singles-few}
 
@@ -102,52 +104,21 @@ item-scheduled i h =
 
 pub read-written :
     (r : Record) (p rest : List ℕ) → Scheduled r →
-    reading (p ++ (bytes_of_record r ++ rest)) (length p) ≡ record { refusal = 0; «record» = r; used = length (bytes_of_record r) }
+    reading (p ++ (bytes_of_record r ++ rest)) (length p) ≡ Ok (record { «record» = r; used = length (bytes_of_record r) })
 unfolding reading answered bytes_of_record
 read-written r p rest s =
     ap (answered _) (items.read-written records (item_of r) p rest (proper r s))
-    ∙ ap (λ (q : Record). record { refusal = 0; «record» = q; used = length (written records (item_of r)) }) (record-kept r s.whole)
+    ∙ ap (λ (q : Record). Ok (record { «record» = q; used = length (written records (item_of r)) })) (record-kept r s.whole)
 
 -- ---- no two records share their bytes, and none begins another
 
 pub written-prefix-free : (r q : Record) (x y : List ℕ) → Scheduled r → Scheduled q → bytes_of_record r ++ x ≡ bytes_of_record q ++ y → r ≡ q
+unfolding bytes_of_record
 written-prefix-free r q x y s t e =
-    ap (λ (a : Read). a.«record») (sym (read-written r [] x s) ∙ ap (λ (l : List ℕ). reading l 0) e ∙ read-written q [] y t)
+    sym (record-kept r s.whole) ∙ ap record_of (items.written-prefix-free records (item_of r) (item_of q) x y (proper r s) (proper q t) e) ∙ record-kept q t.whole
 
 pub written-injective : (r q : Record) → Scheduled r → Scheduled q → bytes_of_record r ≡ bytes_of_record q → r ≡ q
 written-injective r q s t e = written-prefix-free r q [] [] s t (ap (λ (l : List ℕ). l ++ []) e)
-
--- ---- which reading it is
-
-module _ (s : List ℕ) (at : ℕ) where
-  data Seen : Type 0 where
-    refused : (n : ℕ) → 15 ≤ n → item_at records s at ≡ Items.Taken.refused n → reading s at ≡ refusing n (get_or s at 0) → Seen
-    taken : (i : Item) (n : ℕ) → item_at records s at ≡ Items.Taken.taken i n → reading s at ≡ record { refusal = 0; «record» = record_of i; used = n } → Seen
-
-  seen_of : (t : Items.Taken) → item_at records s at ≡ t → Seen
-  unfolding reading answered
-  seen_of (Items.Taken.taken i n) e = taken i n e (ap (answered _) e)
-  seen_of (Items.Taken.refused n) e = refused n (high (items.refused-only records s at n e)) e (ap (answered _) e)
-    where
-      high : (n ≡ 15) ⊎ (n ≡ 16) → 15 ≤ n
-      high (inl h) = omega arith
-      high (inr h) = omega arith
-
-  seen : Seen
-  seen = seen_of (item_at records s at) refl
-
-  -- the number in an answer
-  refusal : {x : Read} → reading s at ≡ x → (reading s at).refusal ≡ x.refusal
-  refusal e = ap (λ (x : Read). x.refusal) e
-
-  pub refused-to : (n : ℕ) → item_at records s at ≡ Items.Taken.refused n → reading s at ≡ refusing n (get_or s at 0)
-  unfolding reading answered
-  refused-to n e = ap (answered _) e
-
-  refused-from : (n : ℕ) → 0 < n → (reading s at).refusal ≡ n → Seen → item_at records s at ≡ Items.Taken.refused n
-  unfolding refusing
-  refused-from n h e (refused m _ i r) = i ∙ ap Items.Taken.refused (sym (refusal r) ∙ e)
-  refused-from n h e (taken i m _ r) = absurd (omega (arith, refusal r))
 
 -- ---- writing what was read
 
@@ -169,65 +140,106 @@ found_as s at i n h e =
       bytes = ap (written records) (item-kept i f.proper) ∙ f.bytes;
     }
 
-pub written_read : (s : List ℕ) (at : ℕ) (r : Record) (n : ℕ) → Bytes s → reading s at ≡ record { refusal = 0; «record» = r; used = n } → ReadAs s at r n
-unfolding refusing
-written_read s at r n h e = by (seen s at)
+pub written_read : (s : List ℕ) (at : ℕ) (t : Taken) → Bytes s → reading s at ≡ Ok t → ReadAs s at t.«record» t.used
+unfolding reading answered refusing
+written_read s at t h e = by (item_at records s at) refl e
   where
-    by : Seen s at → ReadAs s at r n
-    by (refused m l _ q) = absurd (omega (arith, l, refusal s at q, refusal s at e))
-    by (taken i m t q) =
-        let same = sym q ∙ e in
-        subst₂ (λ (x : Record) (k : ℕ). ReadAs s at x k) (ap (λ (x : Read). x.«record») same) (ap (λ (x : Read). x.used) same) (found_as s at i m h t)
+    by : (i : Items.Taken) → item_at records s at ≡ i → answered (get_or s at 0) i ≡ Ok t → ReadAs s at t.«record» t.used
+    by (Items.Taken.taken i n) f g =
+        let same : record { «record» = record_of i; used = n } ≡ t = cc in
+        subst (λ (x : Taken). ReadAs s at x.«record» x.used) same (found_as s at i n h f)
+    by (Items.Taken.refused n) f g = cc
 
 -- ---- exactly when
 
+abbrev refused_by : Result Taken Unread → Refusal
+refused_by (Ok t) = CutShort
+refused_by (Err u) = u.refusal
+
 module _ (s : List ℕ) (at : ℕ) where
-  accepted-from : (reading s at).refusal ≡ 0 → Seen s at → Whole records s at
-  unfolding refusing
-  accepted-from e (refused n l _ r) = absurd (omega (arith, refusal s at r))
-  accepted-from e (taken i n t _) = (items.accepted-iff records s at).0 (i, n, t)
+  unknown-to : Unknown records s at → reading s at ≡ refusing UnknownKind (get_or s at 0)
+  unfolding reading answered refusal_of ite
+  unknown-to u = ap (answered _) ((items.refused-15-iff records s at).1 u)
 
-  accepted-to : Whole records s at → (reading s at).refusal ≡ 0
+  short-to : (length s ≤ at) ⊎ Cut records s at → reading s at ≡ refusing CutShort (get_or s at 0)
+  unfolding reading answered refusal_of ite
+  short-to h = ap (answered _) ((items.refused-16-iff records s at).1 h)
+
+  -- the record that stands there
+  whole-to : Whole records s at → reading s at ≡ Ok (record { «record» = record_of (standing records s at); used = size_of records (get_or s at 0) })
   unfolding reading answered
-  accepted-to w = ap (λ (t : Items.Taken). (answered (get_or s at 0) t).refusal) ((items.accepted-iff records s at).1 w).2
+  whole-to w = ap (answered _) (item-whole records s at w.byte-there w.kind_known w.body-there)
 
-  pub accepted-iff : ((reading s at).refusal ≡ 0) ↔ Whole records s at
-  accepted-iff = (λ e. accepted-from e (seen s at), accepted-to)
+  data Seen : Type 0 where
+    unknown : Unknown records s at → Seen
+    short : (length s ≤ at) ⊎ Cut records s at → Seen
+    whole : Whole records s at → Seen
 
-  pub refused-15-iff : ((reading s at).refusal ≡ 15) ↔ Unknown records s at
+  seen_of : items.Seen records s at → Seen
+  seen_of (items.Seen.none h e) = short (inl h)
+  seen_of (items.Seen.unknown h n e) = unknown (record { byte-there = h; no_kind = n })
+  seen_of (items.Seen.cut h k l e) = short (inr (record { byte-there = h; kind_known = k; body-short = l }))
+  seen_of (items.Seen.whole h k l e) = whole (record { byte-there = h; kind_known = k; body-there = l })
+
+  seen : Seen
+  seen = seen_of (items.seen records s at)
+
+  accepted-from : (t : Taken) → reading s at ≡ Ok t → Seen → Whole records s at
   unfolding refusing
-  refused-15-iff = (
-    λ e. (items.refused-15-iff records s at).0 (refused-from s at 15 (lit< tt) e (seen s at)),
-    λ u. refusal s at (refused-to s at 15 ((items.refused-15-iff records s at).1 u)),
-  )
+  accepted-from t e (unknown u) = let z = unknown-to u in cc
+  accepted-from t e (short h) = let z = short-to h in cc
+  accepted-from t e (whole w) = w
 
-  pub refused-16-iff : ((reading s at).refusal ≡ 16) ↔ ((length s ≤ at) ⊎ Cut records s at)
+  unknown-from : reading s at ≡ refusing UnknownKind (get_or s at 0) → Seen → Unknown records s at
   unfolding refusing
-  refused-16-iff = (
-    λ e. (items.refused-16-iff records s at).0 (refused-from s at 16 (lit< tt) e (seen s at)),
-    λ u. refusal s at (refused-to s at 16 ((items.refused-16-iff records s at).1 u)),
-  )
+  unknown-from e (unknown u) = u
+  unknown-from e (short h) = let z = ap refused_by (sym (short-to h) ∙ e) in cc
+  unknown-from e (whole w) = let z = whole-to w in cc
 
-  pub refused-only : (n : ℕ) → 0 < n → (reading s at).refusal ≡ n → (n ≡ 15) ⊎ (n ≡ 16)
-  refused-only n h e = items.refused-only records s at n (refused-from s at n h e (seen s at))
+  short-from : reading s at ≡ refusing CutShort (get_or s at 0) → Seen → (length s ≤ at) ⊎ Cut records s at
+  unfolding refusing
+  short-from e (unknown u) = let z = ap refused_by (sym (unknown-to u) ∙ e) in cc
+  short-from e (short h) = h
+  short-from e (whole w) = let z = whole-to w in cc
 
-  -- a refusal shows the kind byte as it stands, and leaves the place where it is
-  pub refused-shows : (n : ℕ) → 0 < n → (reading s at).refusal ≡ n → reading s at ≡ refusing n (get_or s at 0)
-  refused-shows n h e = refused-to s at n (refused-from s at n h e (seen s at))
+  refused-from : (u : Unread) → reading s at ≡ Err u → Seen → ((u.refusal ≡ UnknownKind) ⊎ (u.refusal ≡ CutShort)) × (u.kind ≡ get_or s at 0)
+  unfolding refusing
+  refused-from u e (unknown n) =
+      let same : u ≡ record { refusal = UnknownKind; kind = get_or s at 0 } = let z = unknown-to n in cc in
+      (inl (ap (λ (x : Unread). x.refusal) same), ap (λ (x : Unread). x.kind) same)
+  refused-from u e (short h) =
+      let same : u ≡ record { refusal = CutShort; kind = get_or s at 0 } = let z = short-to h in cc in
+      (inr (ap (λ (x : Unread). x.refusal) same), ap (λ (x : Unread). x.kind) same)
+  refused-from u e (whole w) = let z = whole-to w in cc
 
-  accepted-as : Whole records s at → reading s at ≡ record { refusal = 0; «record» = record_of (standing records s at); used = size_of records (get_or s at 0) }
-  unfolding reading answered
-  accepted-as w = ap (answered _) (item-whole records s at w.byte-there w.kind_known w.body-there)
+  pub accepted-iff : ((t : Taken) × (reading s at ≡ Ok t)) ↔ Whole records s at
+  accepted-iff = (λ a. accepted-from a.0 a.1 seen, λ w. (record { «record» = record_of (standing records s at); used = size_of records (get_or s at 0) }, whole-to w))
 
-  -- an accepted record moves the place by its size
-  pub accepted-used : (reading s at).refusal ≡ 0 → (reading s at).used ≡ size_of records (get_or s at 0)
-  accepted-used e = ap (λ (x : Read). x.used) (accepted-as (accepted-iff.0 e))
+  pub refused-15-iff : (reading s at ≡ refusing UnknownKind (get_or s at 0)) ↔ Unknown records s at
+  refused-15-iff = (λ e. unknown-from e seen, unknown-to)
 
-  kind-of : Seen s at → (reading s at).«record».kind ≡ get_or s at 0
-  unfolding refusing record_of
-  kind-of (refused n _ _ r) = ap (λ (x : Read). x.«record».kind) r
-  kind-of (taken i n t _) = ap (λ (x : Read). x.«record».kind) (accepted-as ((items.accepted-iff records s at).0 (i, n, t)))
+  pub refused-16-iff : (reading s at ≡ refusing CutShort (get_or s at 0)) ↔ ((length s ≤ at) ⊎ Cut records s at)
+  refused-16-iff = (λ e. short-from e seen, short-to)
 
-  -- accepted or not, the kind is the byte that stands there
-  pub kind-shown : (reading s at).«record».kind ≡ get_or s at 0
-  kind-shown = kind-of (seen s at)
+  pub refused-only : (u : Unread) → reading s at ≡ Err u → (u.refusal ≡ UnknownKind) ⊎ (u.refusal ≡ CutShort)
+  refused-only u e = (refused-from u e seen).0
+
+  -- a refusal shows the kind byte as it stands
+  pub refused-shows : (u : Unread) → reading s at ≡ Err u → u.kind ≡ get_or s at 0
+  refused-shows u e = (refused-from u e seen).1
+
+  accepted-as : (t : Taken) → reading s at ≡ Ok t → t ≡ record { «record» = record_of (standing records s at); used = size_of records (get_or s at 0) }
+  accepted-as t e = let z = whole-to (accepted-from t e seen) in cc
+
+  -- an accepted record uses as many bytes as its kind has
+  pub accepted-used : (t : Taken) → reading s at ≡ Ok t → t.used ≡ size_of records (get_or s at 0)
+  accepted-used t e = ap (λ (x : Taken). x.used) (accepted-as t e)
+
+  -- and lies within the schedule
+  pub accepted-within : (t : Taken) → reading s at ≡ Ok t → at + t.used ≤ length s
+  accepted-within t e = let w = accepted-from t e seen in omega (arith, w.body-there, accepted-used t e)
+
+  -- and its kind is the byte that stands there
+  pub kind-shown : (t : Taken) → reading s at ≡ Ok t → t.«record».kind ≡ get_or s at 0
+  unfolding record_of
+  kind-shown t e = ap (λ (x : Taken). x.«record».kind) (accepted-as t e)

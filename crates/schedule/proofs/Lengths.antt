@@ -80,3 +80,15 @@ module _ (k : ℕ) where
   pub size-right : size_of records k ≡ get_or lengths k 0 + 1
   unfolding size_of
   size-right = omega (arith, length-right k)
+
+  pub size-is : size_of records k ≡ singles k + ite (carries k) 4 0 + 1
+  size-is = size-right ∙ ap (λ (n : ℕ). n + 1) body-length
+
+  pub size-few : size_of records k ≤ 8
+  size-few = omega (arith, size-right, length-few)
+
+  pub singles-within : singles k + 1 ≤ size_of records k
+  singles-within = omega (arith, size-is)
+
+-- by which the check itself finds the length of a record and of what it begins with
+pub ruleset sizes = (length-valued, length-bare, singles-few, size-right)

@@ -6,6 +6,8 @@ use Prim.Native.Nat.{ℕ, ◌≤◌, ◌<◌}
 use native.Mathlib.{Nat.zero-add, Omega.arith}
 use lib.{Dec.ltb, ListN.{length, drop}, Seq.{sets, sets-eq}}
 use borrow.Author.Tests.{ltb-true, ltb-false}
+use Rattle.std.specs.Prelude.{Ok, Err}
+use Rattle.basics.specs.declared.refused.Refusal.{Refusal, TheVariants.{AreaTooShort, UnknownKind}}
 use Rattle.codec.{proofs.Items.length-written, specs.Items.size_of}
 use Rattle.schedule.specs.{Records.{records, item_of, bytes_of_record, reading, writable, Outcome, writing}, declared.Record.Record}
 use Rattle.schedule.proofs.{Cases.{writing-short, writing-refused, writing-done}, Laws.{Scheduled, proper, read-written}}
@@ -16,12 +18,12 @@ length-bytes r s = length-written records (item_of r) (proper r s)
 
 module _ (r : Record) (area : List ℕ) where
   data Seen : Type 0 where
-    short : length area < size_of records r.kind → writing r area ≡ record { answer = record { refusal = 3; used = 0 }; area = area } → Seen
+    short : length area < size_of records r.kind → writing r area ≡ record { answer = Err AreaTooShort; area = area } → Seen
     no_record :
-        size_of records r.kind ≤ length area → writable r ≡ false → writing r area ≡ record { answer = record { refusal = 15; used = 0 }; area = area } → Seen
+        size_of records r.kind ≤ length area → writable r ≡ false → writing r area ≡ record { answer = Err UnknownKind; area = area } → Seen
     done :
         size_of records r.kind ≤ length area → writable r ≡ true →
-        writing r area ≡ record { answer = record { refusal = 0; used = size_of records r.kind }; area = sets area 0 (bytes_of_record r) } → Seen
+        writing r area ≡ record { answer = Ok (size_of records r.kind); area = sets area 0 (bytes_of_record r) } → Seen
 
   seen-record : size_of records r.kind ≤ length area → (b : Bool) → writable r ≡ b → Seen
   seen-record h true e = done h e (writing-done r area h e)
@@ -36,43 +38,43 @@ module _ (r : Record) (area : List ℕ) where
 
   -- ---- exactly when
 
-  refusal : {o : Outcome} → writing r area ≡ o → (writing r area).answer.refusal ≡ o.answer.refusal
-  refusal e = ap (λ (o : Outcome). o.answer.refusal) e
+  answered : {o : Outcome} → writing r area ≡ o → (writing r area).answer ≡ o.answer
+  answered e = ap (λ (o : Outcome). o.answer) e
 
-  short-of : (writing r area).answer.refusal ≡ 3 → Seen → length area < size_of records r.kind
+  short-of : (writing r area).answer ≡ Err AreaTooShort → Seen → length area < size_of records r.kind
   short-of e (short h q) = h
-  short-of e (no_record h n q) = absurd (omega (arith, refusal q))
-  short-of e (done h y q) = absurd (omega (arith, refusal q))
+  short-of e (no_record h n q) = let z = answered q in cc
+  short-of e (done h y q) = let z = answered q in cc
 
-  none_of : (writing r area).answer.refusal ≡ 15 → Seen → (size_of records r.kind ≤ length area) × (writable r ≡ false)
-  none_of e (short h q) = absurd (omega (arith, refusal q))
+  none_of : (writing r area).answer ≡ Err UnknownKind → Seen → (size_of records r.kind ≤ length area) × (writable r ≡ false)
+  none_of e (short h q) = let z = answered q in cc
   none_of e (no_record h n q) = (h, n)
-  none_of e (done h y q) = absurd (omega (arith, refusal q))
+  none_of e (done h y q) = let z = answered q in cc
 
-  done-of : (writing r area).answer.refusal ≡ 0 → Seen → (size_of records r.kind ≤ length area) × (writable r ≡ true)
-  done-of e (short h q) = absurd (omega (arith, refusal q))
-  done-of e (no_record h n q) = absurd (omega (arith, refusal q))
-  done-of e (done h y q) = (h, y)
+  done-of : (n : ℕ) → (writing r area).answer ≡ Ok n → Seen → (size_of records r.kind ≤ length area) × (writable r ≡ true)
+  done-of n e (short h q) = let z = answered q in cc
+  done-of n e (no_record h x q) = let z = answered q in cc
+  done-of n e (done h y q) = (h, y)
 
-  pub write-refused-3-iff : ((writing r area).answer.refusal ≡ 3) ↔ (length area < size_of records r.kind)
-  write-refused-3-iff = (λ e. short-of e seen, λ h. refusal (writing-short r area h))
+  pub write-refused-3-iff : ((writing r area).answer ≡ Err AreaTooShort) ↔ (length area < size_of records r.kind)
+  write-refused-3-iff = (λ e. short-of e seen, λ h. answered (writing-short r area h))
 
-  pub write-refused-15-iff : ((writing r area).answer.refusal ≡ 15) ↔ ((size_of records r.kind ≤ length area) × (writable r ≡ false))
-  write-refused-15-iff = (λ e. none_of e seen, λ h. refusal (writing-refused r area h.0 h.1))
+  pub write-refused-15-iff : ((writing r area).answer ≡ Err UnknownKind) ↔ ((size_of records r.kind ≤ length area) × (writable r ≡ false))
+  write-refused-15-iff = (λ e. none_of e seen, λ h. answered (writing-refused r area h.0 h.1))
 
-  pub write-accepted-iff : ((writing r area).answer.refusal ≡ 0) ↔ ((size_of records r.kind ≤ length area) × (writable r ≡ true))
-  write-accepted-iff = (λ e. done-of e seen, λ h. refusal (writing-done r area h.0 h.1))
+  pub write-accepted-iff : ((n : ℕ) × ((writing r area).answer ≡ Ok n)) ↔ ((size_of records r.kind ≤ length area) × (writable r ≡ true))
+  write-accepted-iff = (λ a. done-of a.0 a.1 seen, λ h. (size_of records r.kind, answered (writing-done r area h.0 h.1)))
 
   -- ---- the area
 
-  left_alone : 0 < (writing r area).answer.refusal → Seen → (writing r area).area ≡ area
-  left_alone e (short h q) = ap (λ (o : Outcome). o.area) q
-  left_alone e (no_record h x q) = ap (λ (o : Outcome). o.area) q
-  left_alone e (done h y q) = absurd (omega (arith, refusal q))
+  left_alone : (x : Refusal) → (writing r area).answer ≡ Err x → Seen → (writing r area).area ≡ area
+  left_alone x e (short h q) = ap (λ (o : Outcome). o.area) q
+  left_alone x e (no_record h n q) = ap (λ (o : Outcome). o.area) q
+  left_alone x e (done h y q) = let z = answered q in cc
 
   -- a refusal leaves the area as it was
-  pub refused-untouched : 0 < (writing r area).answer.refusal → (writing r area).area ≡ area
-  refused-untouched e = left_alone e seen
+  pub refused-untouched : (x : Refusal) → (writing r area).answer ≡ Err x → (writing r area).area ≡ area
+  refused-untouched x e = left_alone x e seen
 
   -- a record that is taken stands at the front, and the area past it is as it was
   pub written-front : Scheduled r → size_of records r.kind ≤ length area → (writing r area).area ≡ bytes_of_record r ++ drop (size_of records r.kind) area
@@ -84,8 +86,8 @@ module _ (r : Record) (area : List ℕ) where
   -- and is read back from there
   pub written-reads-back :
       Scheduled r → size_of records r.kind ≤ length area →
-      reading (writing r area).area 0 ≡ record { refusal = 0; «record» = r; used = size_of records r.kind }
+      reading (writing r area).area 0 ≡ Ok (record { «record» = r; used = size_of records r.kind })
   written-reads-back s h =
       ap (λ (l : List ℕ). reading l 0) (written-front s h)
       ∙ read-written r [] (drop (size_of records r.kind) area) s
-      ∙ ap (λ (n : ℕ). record { refusal = 0; «record» = r; used = n }) (length-bytes r s)
+      ∙ ap (λ (n : ℕ). Ok (record { «record» = r; used = n })) (length-bytes r s)

@@ -2,13 +2,14 @@
 -- 4 WRITE1, 5 READ, 6 PROCEED (sender, receiver), 7 power loss (panel), 8 drain". Reading takes the record that stands at a
 -- place of the schedule and says how many bytes it used; writing tries 3, then 15.
 -- Assumes nothing.
-use Rattle.std.specs.Prelude.{ℕ}
+use Rattle.std.specs.Prelude.{ℕ, Result, Ok, Err}
 use mathlib.Core.{Bool.{Bool, true}, List.{List, [], ◌∷◌, ◌++◌}}
 use lib.{Dec.{ltb, eqb}, ListN.{length, get_or, take, replicate}, Seq.sets}
 use Rattle.basics.specs.Choice.{ite, both}
+use Rattle.basics.specs.declared.refused.Refusal.{Refusal, TheVariants.{AreaTooShort, UnknownKind, CutShort}}
 use Rattle.codec.specs.Items.{Format, Item, size_of, written, item_at}
 use Rattle.codec.specs.Items as Items
-use Rattle.schedule.specs.declared.{Read.Read, Record.Record, Written.Written}
+use Rattle.schedule.specs.declared.{Record.Record, Taken.Taken, Unread.Unread}
 
 -- "Their body lengths by kind, 0 to 8, are 7, 4, 1, 2, 2, 2, 2, 1, 0"
 abbrev pub lengths : List ℕ
@@ -63,16 +64,20 @@ record_of i =
       value = value_behind (carries i.kind) (singles i.kind) i.numbers;
     }
 
--- a refusal: its number, and of the record the kind byte as it stands; no byte is used
-unfoldable pub refusing : ℕ → ℕ → Read
-refusing n k = record { refusal = n; «record» = record { kind = k; a = 0; b = 0; c = 0; value = 0 }; used = 0 }
+-- the refusal by which an item is none: 15 or 16
+unfoldable pub refusal_of : ℕ → Refusal
+refusal_of n = ite (eqb n 15) UnknownKind CutShort
 
--- what reading answers at a place with kind byte k: the record and how many bytes it used, or a refusal
-unfoldable pub answered : ℕ → Items.Taken → Read
-answered k (Items.Taken.taken i n) = record { refusal = 0; «record» = record_of i; used = n }
-answered k (Items.Taken.refused n) = refusing n k
+-- a refusal, with the kind byte as it stands
+unfoldable pub refusing : Refusal → ℕ → Result Taken Unread
+refusing r k = Err (record { refusal = r; kind = k })
 
-unfoldable pub reading : List ℕ → ℕ → Read
+-- what reading answers at a place with kind byte k: the record and how many bytes it used, or a refusal, which uses none
+unfoldable pub answered : ℕ → Items.Taken → Result Taken Unread
+answered k (Items.Taken.taken i n) = Ok (record { «record» = record_of i; used = n })
+answered k (Items.Taken.refused n) = refusing (refusal_of n) k
+
+unfoldable pub reading : List ℕ → ℕ → Result Taken Unread
 reading s at = answered (get_or s at 0) (item_at records s at)
 
 -- a number that the kind has, or zero
@@ -90,13 +95,13 @@ writable r =
 
 -- what writing leaves: its answer, and the area
 pub record Outcome : Type 0 where
-  pub answer : Written
+  pub answer : Result ℕ Refusal
   pub area : List ℕ
 
 -- 3: the area is shorter than the record, an unknown kind counting one byte; 15: no record; both leave the area alone
 unfoldable pub writing : Record → List ℕ → Outcome
 writing r area =
-    ite (ltb (length area) (size_of records r.kind)) (record { answer = record { refusal = 3; used = 0 }; area = area })
+    ite (ltb (length area) (size_of records r.kind)) (record { answer = Err AreaTooShort; area = area })
     (ite (writable r)
-    (record { answer = record { refusal = 0; used = size_of records r.kind }; area = sets area 0 (bytes_of_record r) })
-    (record { answer = record { refusal = 15; used = 0 }; area = area }))
+    (record { answer = Ok (size_of records r.kind); area = sets area 0 (bytes_of_record r) })
+    (record { answer = Err UnknownKind; area = area }))

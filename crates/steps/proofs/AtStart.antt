@@ -6,12 +6,15 @@ use Prim.Native.Nat.{ℕ, ◌+◌, ◌≤◌, ◌<◌}
 use native.Mathlib.{Decide.dec_lt, Omega.arith}
 use lib.ListN.{length, length-replicate, get_or-replicate}
 use borrow.Author.Tests.{le-leb}
-use Rattle.basics.proofs.{Below.{length-list_below, get_or-list_below}, Choices.{ite-true, ite-false, not_so}, Lists.get_or-same}
+use Rattle.std.specs.{Prelude.{not, Result, Ok, Err}, Result.result_unwrap_or}
+use Rattle.basics.{proofs.Refusals.{number-some, met-given, met-not, met-none}, specs.Refusal.{and_then, code}}
+use Rattle.basics.specs.declared.refused.Refusal.{Refusal, TheVariants.{OutOfRange}}
+use Rattle.basics.proofs.{Below.{length-list_below, get_or-list_below}, Choices.not_so, Lists.get_or-same}
 use Rattle.basics.specs.Below.{one_if, count_below}
 use Rattle.form.{proofs.InForm.{Fits, fits-view, panel-iff}, proofs.Shape.{Shaped, fresh-shaped}, specs.Form.{fits, fresh}}
 use Rattle.form.specs.declared.Tables.{Tables}
 use Rattle.unused.{proofs.Zero.fresh-is-unused, specs.Unused.unused}
-use Rattle.panel.{proofs.Calling.{nothing_is, made-elsewhere, made-done}, specs.Calls.{panel_of, made}, specs.declared.Made.Made}
+use Rattle.panel.{proofs.Calling.{nothing_is, made-elsewhere, made-done}, specs.Calls.{panel_of, made, nothing}}
 use Rattle.panel.specs.declared.Panel.{Panel}
 use Rattle.protocol.proofs.AtFirst.{Fresh}
 use Rattle.promise.proofs.{AtPlace.fresh_at, Numbers.{fresh-view, fresh-waits, fresh-initial, fresh-n, fresh-t, fresh-writer, fresh-number}}
@@ -26,13 +29,19 @@ use Rattle.steps.proofs.Networks.{Good}
 
 -- ---- set-up of one panel
 
-module _ (n t writer v : ℕ) (ok : fits n t writer ≡ true) where
-  made-panel : (i : ℕ) → i < n → (made n t writer (i + 1) v).panel ≡ panel_of (fresh n t writer (i + 1) v)
-  made-panel i h = ap (λ (m : Made). m.panel) (made-done n t writer (i + 1) v ok ((panel-iff n (i + 1)).1 (omega arith, omega arith)))
+abbrev or_nothing : Result Panel Refusal → Panel
+or_nothing m = result_unwrap_or m nothing
 
-  made_nothing : (i : ℕ) → n ≤ i → (made n t writer (i + 1) v).panel ≡ panel_of (fresh 0 0 0 0 0)
+abbrev member_at : ℕ → ℕ → ℕ → ℕ → ℕ → Panel
+member_at n t writer v i = or_nothing (made n t writer (i + 1) v)
+
+module _ (n t writer v : ℕ) (ok : fits n t writer ≡ true) where
+  made-panel : (i : ℕ) → i < n → member_at n t writer v i ≡ panel_of (fresh n t writer (i + 1) v)
+  made-panel i h = ap or_nothing (made-done n t writer (i + 1) v ok ((panel-iff n (i + 1)).1 (omega arith, omega arith)))
+
+  made_nothing : (i : ℕ) → n ≤ i → member_at n t writer v i ≡ panel_of (fresh 0 0 0 0 0)
   made_nothing i h =
-      ap (λ (m : Made). m.panel) (made-elsewhere n t writer (i + 1) v ok (not_so λ e. omega (arith, ((panel-iff n (i + 1)).0 e).1)))
+      ap or_nothing (made-elsewhere n t writer (i + 1) v ok (not_so λ e. omega (arith, ((panel-iff n (i + 1)).0 e).1)))
       ∙ nothing_is
 
 -- ---- the network
@@ -46,9 +55,9 @@ module _ (n t writer v : ℕ) where
   abbrev start : Network
   start = fresh_network n t writer v
 
-  panel-at-first : (i : ℕ) → i < 7 → panel_at start i ≡ (made n t writer (i + 1) v).panel
+  panel-at-first : (i : ℕ) → i < 7 → panel_at start i ≡ member_at n t writer v i
   unfolding fresh_network
-  panel-at-first i h = get_or-list_below 7 (λ (k : ℕ). (made n t writer (k + 1) v).panel) i nobody h
+  panel-at-first i h = get_or-list_below 7 (member_at n t writer v) i nobody h
 
   row-at-first : (i : ℕ) → i < 7 → row_at start i ≡ empty_row
   unfolding fresh_network
@@ -103,7 +112,7 @@ module _ (n t writer v : ℕ) where
     unfolding fresh_network
     whole =
         record {
-          panels_long = length-list_below 7 (λ (i : ℕ). (made n t writer (i + 1) v).panel);
+          panels_long = length-list_below 7 (member_at n t writer v);
           rows_long = length-replicate 7 empty_row;
           down_long = length-replicate 7 false;
           panel_shaped = λ i h. shaped i h (dec_lt i n);
@@ -148,21 +157,22 @@ module _ (n t writer v : ℕ) where
 -- ---- the call
 
 module _ (n t writer v : ℕ) where
-  pub set-up-network : (set_up n t writer v).network ≡ fresh_network n t writer v
+  pub set-up-taken : fits n t writer ≡ true → set_up n t writer v ≡ Ok (fresh_network n t writer v)
   unfolding set_up
-  set-up-network = refl
+  set-up-taken ok =
+      ap (λ (m : Result Unit Refusal). and_then m (Ok (fresh_network n t writer v))) (met-not _ _ (ap not ok) ∙ met-none)
 
-  pub set-up-taken : fits n t writer ≡ true → (set_up n t writer v).refusal ≡ 0
+  pub set-up-refused : fits n t writer ≡ false → set_up n t writer v ≡ Err OutOfRange
   unfolding set_up
-  set-up-taken ok = ite-true _ _ ok
+  set-up-refused no-fit = ap (λ (m : Result Unit Refusal). and_then m (Ok (fresh_network n t writer v))) (met-given _ _ (ap not no-fit))
 
-  pub set-up-refused : fits n t writer ≡ false → (set_up n t writer v).refusal ≡ 1
-  unfolding set_up
-  set-up-refused no-fit = ite-false _ _ no-fit
-
-  pub set-up-fits : (set_up n t writer v).refusal ≡ 0 → fits n t writer ≡ true
-  set-up-fits z = by (fits n t writer) refl
+  pub set-up-fits : (s : Network) → set_up n t writer v ≡ Ok s → fits n t writer ≡ true
+  set-up-fits s z = by (fits n t writer) refl
     where
       by : (b : Bool) → fits n t writer ≡ b → fits n t writer ≡ true
       by true e = e
-      by false e = absurd (omega (arith, z, set-up-refused e))
+      by false e = absurd (number-some OutOfRange (ap code (sym (set-up-refused e) ∙ z)))
+
+  -- the network that it makes
+  pub set-up-network : (s : Network) → set_up n t writer v ≡ Ok s → s ≡ fresh_network n t writer v
+  set-up-network s z = ap (λ (m : Result Network Refusal). result_unwrap_or m s) (sym z ∙ set-up-taken (set-up-fits s z))

@@ -111,7 +111,7 @@ module _ (s : Network) (g : Good s) (i : ℕ) (within : i < n_of s) (e : Event) 
 settled-kept :
     (s s₁ : Network) → Good s → Kept s s₁ → (i : ℕ) → i < n_of s₁ → (e : Event) → Kept s (settled s s₁ i (after (panel_at s₁ i) e)).network
 settled-kept s s₁ g k i within e =
-    settled_case s s₁ i _ (λ (a : Stepped). Kept s a.network) (λ _. kept-none s g) (kept-none s g)
+    settled_case s s₁ i _ (λ (a : Stepped). Kept s a.network) (λ _ _. kept-none s g) (kept-none s g)
     (λ _. kept_then s s₁ _ k (acted-kept s₁ k.good i within e))
 
 -- a message is out of its channel
@@ -136,18 +136,18 @@ module _ (s : Network) (g : Good s) where
   pub write_kept : (v : ℕ) → Kept s (write_in s v).network
   unfolding write_in
   write_kept v =
-      tried-case (write_trials s) s _ KeptBy (λ _. kept-none s g) (λ _. settled-kept s s g (kept-none s g) (writer_of s - 1) (writer-place s g) _)
+      tried-case (write_trials s) s _ KeptBy (λ _ _. kept-none s g) (λ _. settled-kept s s g (kept-none s g) (writer_of s - 1) (writer-place s g) _)
 
   pub read_kept : (i : ℕ) → Kept s (read_in s i).network
   unfolding read_in
   read_kept i =
-      tried-case (read_trials s i) s _ KeptBy (λ _. kept-none s g)
+      tried-case (read_trials s i) s _ KeptBy (λ _ _. kept-none s g)
       (λ z. let m = (may_read s i).0 z in settled-kept s s g (kept-none s g) (i - 1) (omega (arith, m.low, m.high)) _)
 
   pub deliver-kept : (k i j : ℕ) → Kept s (deliver_in s k i j).network
   unfolding deliver_in
   deliver-kept k i j =
-      tried-case (deliver_trials s k i j) s _ KeptBy (λ _. kept-none s g)
+      tried-case (deliver_trials s k i j) s _ KeptBy (λ _ _. kept-none s g)
       (λ z.
       let m = ((may-deliver s k i j).0 z).pair in
       settled-kept s _ g (taken-kept s g (i - 1) (j - 1) k (omega (arith, m.sender-high, g.form.n-high))) (j - 1)
@@ -156,7 +156,7 @@ module _ (s : Network) (g : Good s) where
   pub lose-kept : (i : ℕ) → Kept s (lose_in s i).network
   unfolding lose_in
   lose-kept i =
-      tried-case (lose_trials s i) s _ KeptBy (λ _. kept-none s g)
+      tried-case (lose_trials s i) s _ KeptBy (λ _ _. kept-none s g)
       (λ z.
       let m = (may-lose s i).0 z in
       record {

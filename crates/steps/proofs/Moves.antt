@@ -104,4 +104,4 @@ read-moves s g i ok =
 
 pub lose-moves : (s : Network) (i : ℕ) → world_of (lose_in s i).network ≡ world_of s
 unfolding lose_in
-lose-moves s i = tried-case (lose_trials s i) s _ (λ (a : Stepped). world_of a.network ≡ world_of s) (λ _. refl) (λ _. refl)
+lose-moves s i = tried-case (lose_trials s i) s _ (λ (a : Stepped). world_of a.network ≡ world_of s) (λ _ _. refl) (λ _. refl)

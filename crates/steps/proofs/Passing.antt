@@ -3,7 +3,6 @@
 use mathlib.Core.{Bool.{true, false, not}, Logic.{◌↔◌, ◌≢◌}, Path.{◌≡◌, ap, ◌∙◌}}
 use Prim.Native.Nat.{ℕ, ◌+◌, ◌-◌, ◌≤◌, ◌<◌}
 use native.Mathlib.Omega.{arith}
-use lib.Dec.{lit<}
 use borrow.Author.Tests.{eqb-false, ne_eqb, not-true, not-false}
 use Rattle.basics.proofs.{Choices.{both_left, both_right, both_true}, Refusals.{passed, first-not, first-none}}
 use Rattle.basics.specs.Refusal.{first_of}
@@ -51,7 +50,7 @@ pub record MayWrite (s : Network) : Type 0 where
 
 pub may_write : (s : Network) → (first_of (write_trials s) ≡ 0) ↔ MayWrite s
 unfolding write_trials
-may_write s = (λ z. record { live = (passed (write_trials s) (lit< tt, tt) z).0 }, λ h. first-not _ _ h.live ∙ first-none)
+may_write s = (λ z. record { live = (passed (write_trials s) z).0 }, λ h. first-not _ _ h.live ∙ first-none)
 
 -- ---- a read
 
@@ -64,7 +63,7 @@ pub may_read : (s : Network) (i : ℕ) → (first_of (read_trials s i) ≡ 0) �
 unfolding read_trials
 may_read s i = (
   λ z.
-      let p = passed (read_trials s i) (lit< tt, (lit< tt, tt)) z in
+      let p = passed (read_trials s i) z in
       let b = (panel-iff (n_of s) i).0 (not-false _ p.0) in
       record { low = b.0; high = b.1; live = p.1.0 },
   λ h. first-not _ _ (ap not ((panel-iff (n_of s) i).1 (h.low, h.high))) ∙ first-not _ _ h.live ∙ first-none,
@@ -81,7 +80,7 @@ pub may-deliver : (s : Network) (k i j : ℕ) → (first_of (deliver_trials s k 
 unfolding deliver_trials
 may-deliver s k i j = (
   λ z.
-      let p = passed (deliver_trials s k i j) (lit< tt, (lit< tt, (lit< tt, tt))) z in
+      let p = passed (deliver_trials s k i j) z in
       record { pair = (pair-iff (n_of s) i j).0 (not-false _ p.0); live = p.1.0; there = not-false _ p.1.1.0 },
   λ h.
       first-not _ _ (ap not ((pair-iff (n_of s) i j).1 h.pair))
@@ -102,7 +101,7 @@ pub may-lose : (s : Network) (i : ℕ) → (first_of (lose_trials s i) ≡ 0) �
 unfolding lose_trials
 may-lose s i = (
   λ z.
-      let p = passed (lose_trials s i) (lit< tt, (lit< tt, (lit< tt, tt))) z in
+      let p = passed (lose_trials s i) z in
       let b = (panel-iff (n_of s) i).0 (not-false _ p.0) in
       record { low = b.0; high = b.1; live = p.1.0; one_more = not-false _ p.1.1.0 },
   λ h.

@@ -3,13 +3,14 @@
 use mathlib.Core.{Bool.true, Logic.◌≢◌, Path.{◌≡◌, refl, ap, ◌∙◌}}
 use Prim.Native.Nat.{ℕ, ◌+◌, ◌-◌, ◌<◌}
 use native.Mathlib.{Decide.ℕ_discrete, Omega.arith}
+use Rattle.basics.specs.Refusal.{code}
 use Rattle.panel.specs.declared.Next.{Next}
 use Rattle.promise.specs.View.{code_of}
 use Rattle.house.{proofs.Stores.{down-with-down, down-with-down-ne, downs-with-down}, specs.NetForm.downs, specs.Places.{down_at, with_down}}
 use Rattle.house.specs.declared.Network.{Network}
 use Rattle.steps.specs.{Drain.drained, Moves.{Deliveries, none, more}}
 use Rattle.steps.specs.Steps.{settled, write_trials, read_trials, deliver_trials, lose_trials, write_in, read_in, deliver_in, lose_in}
-use Rattle.steps.specs.declared.{Drained.Drained, Stepped.Stepped}
+use Rattle.steps.specs.declared.{Stepped.Stepped}
 use Rattle.steps.proofs.{Delivering.without, Networks.{Good, place-seven}, Passing.{MayLose, may-lose}}
 use Rattle.steps.proofs.Settling.{settled_case, tried-case, Passed, tried-accepted}
 use Rattle.steps.proofs.WholeDrain.{drained-refused, drained-deliveries}
@@ -17,7 +18,7 @@ use Rattle.steps.proofs.WholeDrain.{drained-refused, drained-deliveries}
 -- ---- a panel acts
 
 settled-down : (s s₁ : Network) (i : ℕ) (q : Next) → s₁.down ≡ s.down → (settled s s₁ i q).network.down ≡ s.down
-settled-down s s₁ i q same = settled_case s s₁ i q (λ (a : Stepped). a.network.down ≡ s.down) (λ _. refl) refl (λ _. same)
+settled-down s s₁ i q same = settled_case s s₁ i q (λ (a : Stepped). a.network.down ≡ s.down) (λ _ _. refl) refl (λ _. same)
 
 module _ (s : Network) where
   abbrev SameDown : Stepped → Type 0
@@ -25,26 +26,26 @@ module _ (s : Network) where
 
   pub write-down : (v : ℕ) → (write_in s v).network.down ≡ s.down
   unfolding write_in
-  write-down v = tried-case (write_trials s) s _ SameDown (λ _. refl) (λ _. settled-down s s _ _ refl)
+  write-down v = tried-case (write_trials s) s _ SameDown (λ _ _. refl) (λ _. settled-down s s _ _ refl)
 
   pub read_down : (i : ℕ) → (read_in s i).network.down ≡ s.down
   unfolding read_in
-  read_down i = tried-case (read_trials s i) s _ SameDown (λ _. refl) (λ _. settled-down s s _ _ refl)
+  read_down i = tried-case (read_trials s i) s _ SameDown (λ _ _. refl) (λ _. settled-down s s _ _ refl)
 
   pub deliver-down : (k i j : ℕ) → (deliver_in s k i j).network.down ≡ s.down
   unfolding deliver_in
-  deliver-down k i j = tried-case (deliver_trials s k i j) s _ SameDown (λ _. refl) (λ _. settled-down s (without s k i j) _ _ refl)
+  deliver-down k i j = tried-case (deliver_trials s k i j) s _ SameDown (λ _ _. refl) (λ _. settled-down s (without s k i j) _ _ refl)
 
 pub deliveries-down : {m : ℕ} {s s' : Network} → Deliveries m s s' → s'.down ≡ s.down
 deliveries-down none = refl
 deliveries-down {s = s} (more k i j ok rest) = deliveries-down rest ∙ deliver-down s k i j
 
 pub drained-down : (s : Network) → Good s → (drained s).network.down ≡ s.down
-drained-down s g = by (ℕ_discrete (drained s).refusal 0)
+drained-down s g = by (ℕ_discrete (code (drained s).answer) 0)
   where
-    by : Dec ((drained s).refusal ≡ 0) → (drained s).network.down ≡ s.down
+    by : Dec (code (drained s).answer ≡ 0) → (drained s).network.down ≡ s.down
     by (yes z) = deliveries-down (drained-deliveries s g z)
-    by (no n) = ap (λ (d : Drained). d.network.down) (drained-refused s g n)
+    by (no n) = ap (λ (x : Network). x.down) (drained-refused s g n)
 
 -- ---- power loss
 

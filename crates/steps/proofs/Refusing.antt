@@ -6,14 +6,15 @@ use Prim.Native.Nat.{ℕ, zero, suc, ◌+◌, ◌-◌, ◌≤◌, ◌<◌}
 use native.Mathlib.Omega.{arith}
 use lib.Dec.{eqb}
 use borrow.Author.Tests.{eqb-true}
-use Rattle.basics.{proofs.Choices.{ite-case, clash}, proofs.Refusals.first-not, specs.Choice.ite, specs.Refusal.{Trial, first_of}}
+use Rattle.basics.{proofs.Choices.{ite-case, clash}, proofs.Refusals.first-not, specs.Choice.ite, specs.Refusal.{Trial, first_of, number_of, code}, specs.declared.refused.Refusal.{Refusal, TheVariants.ChannelFull}}
 use Rattle.refusals.specs.Refusals.{Event, refusal, Event.{write, read}}
-use Rattle.events.specs.declared.Answer.TheVariants.{Refused}
+use Rattle.std.specs.Prelude.{Some, Err}
+use Rattle.events.specs.Events.{Answer}
 use Rattle.panel.specs.{Calls.after, declared.Next.Next, declared.Panel.Panel}
 use Rattle.promise.proofs.{AfterEvents.after-code, Answers.{at-writer, write-refusal, read-refusal}}
 use Rattle.promise.{proofs.AtPlace.{At, at-write-from-met, at-read-from-met, at-proceed-from-met}, specs.View.code_of}
 use Rattle.channels.proofs.{ByKind.kind-case, Flying.has-known}
-use Rattle.house.{proofs.NetForms.writer-low, specs.Places.{panel_at, tables_at, n_of, writer_of}, specs.Search.first_in}
+use Rattle.house.{proofs.NetForms.writer-low, specs.Places.{panel_at, tables_at, n_of, writer_of}, specs.Search.first_in, specs.declared.InFlight.InFlight}
 use Rattle.house.specs.declared.Network.{Network}
 use Rattle.steps.specs.{Drain.{next_in, drain_by, drained}, Moves.arriving}
 use Rattle.steps.specs.Steps.{tried, settled, comes, write_trials, read_trials, deliver_trials, lose_trials, write_in, read_in, deliver_in, lose_in}
@@ -41,7 +42,7 @@ one_of k (x ∷ ks) h =
 -- each trial has one of the numbers
 abbrev Listed : List Trial → List ℕ → Type 0
 Listed [] ks = Unit {0}
-Listed (t ∷ ts) ks = (listed t.number ks ≡ true) × Listed ts ks
+Listed (t ∷ ts) ks = (listed (number_of t.refusal) ks ≡ true) × Listed ts ks
 
 module _ (ks : List ℕ) (none : listed 0 ks ≡ true) where
   first_one : (ts : List Trial) → Listed ts ks → OneOf (first_of ts) ks
@@ -54,11 +55,12 @@ module _ (ks : List ℕ) (none : listed 0 ks ≡ true) where
       (ts : List Trial) (s s₁ : Network) (i : ℕ) (q : Next) → OneOf (first_of ts) ks → (first_of ts ≡ 0 → OneOf (code_of q.answer) ks) →
       listed 14 ks ≡ true → OneOf (code_of (tried ts s (settled s s₁ i q)).answer) ks
   step-one ts s s₁ i q first panel full =
-      tried-case ts s _ (λ (a : Stepped). OneOf (code_of a.answer) ks) (λ _. told _ first) λ z.
-      settled_case s s₁ i q (λ (a : Stepped). OneOf (code_of a.answer) ks) (λ _. told _ (panel z)) (told 14 (one_of 14 ks full)) (λ _. panel z)
+      tried-case ts s _ (λ (a : Stepped). OneOf (code_of a.answer) ks) (λ r e. told r (subst (λ (k : ℕ). OneOf k ks) e first)) λ z.
+      settled_case s s₁ i q (λ (a : Stepped). OneOf (code_of a.answer) ks)
+      (λ r e. subst (λ (a : Answer). OneOf (code_of a) ks) e (panel z)) (told ChannelFull (one_of 14 ks full)) (λ _. panel z)
     where
-      told : (k : ℕ) → OneOf k ks → OneOf (code_of (Refused k)) ks
-      told k h = subst (λ (x : ℕ). OneOf x ks) (sym (code-refused k)) h
+      told : (r : Refusal) → OneOf (number_of r) ks → OneOf (code_of (Err r)) ks
+      told r h = subst (λ (x : ℕ). OneOf x ks) (sym (code-refused r)) h
 
 -- ---- the steps
 
@@ -153,27 +155,27 @@ module _ (s : Network) (g : Good s) where
   unfolding lose_in lose_trials listed ite
   lose-numbers i =
       tried-case (lose_trials s i) s _ (λ (a : Stepped). OneOf (code_of a.answer) losing)
-      (λ _. subst (λ (k : ℕ). OneOf k losing) (sym (code-refused _)) (first_one losing refl (lose_trials s i) (refl, (refl, (refl, tt)))))
+      (λ r e. subst (λ (k : ℕ). OneOf k losing) (e ∙ sym (code-refused r)) (first_one losing refl (lose_trials s i) (refl, (refl, (refl, tt)))))
       (λ _. subst (λ (k : ℕ). OneOf k losing) (sym code-nothing) (one_of 0 losing refl))
 
   -- ---- a drain
 
-  pub next-numbers : (first_in s).any ≡ true → OneOf (code_of (next_in s).answer) draining
+  pub next-numbers : (x : InFlight) → first_in s ≡ Some x → OneOf (code_of (next_in s x).answer) draining
   unfolding next_in deliver_in listed ite
-  next-numbers e =
-      let m = next-may s g e in
+  next-numbers x e =
+      let m = next-may s g x e in
       let passes = (may-deliver s _ _ _).1 m in
       step-one draining refl (deliver_trials s _ _ _) s (without s _ _ _) _ _
       (subst (λ (k : ℕ). OneOf k draining) (sym passes) (one_of 0 draining refl))
       (λ _. arrival-one draining refl refl refl refl _ _ _ m) refl
 
-drain-numbers : (f : ℕ) (s₀ s : Network) (m : ℕ) → Good s → OneOf (drain_by f s₀ s m).refusal draining
+drain-numbers : (f : ℕ) (s₀ s : Network) (m : ℕ) → Good s → OneOf (code (drain_by f s₀ s m).answer) draining
 unfolding drain_by listed ite
 drain-numbers zero s₀ s m g = one_of 0 draining refl
 drain-numbers (suc f) s₀ s m g =
-    by-case f s₀ s m (λ (d : Drained). OneOf d.refusal draining) (λ _. one_of 0 draining refl)
-    (λ _ _. drain-numbers f s₀ (next_in s).network (m + 1) (next-kept s g).good)
-    (λ e _. next-numbers s g e)
+    by-case f s₀ s m (λ (d : Drained). OneOf (code d.answer) draining) (λ _. one_of 0 draining refl)
+    (λ x _ _. drain-numbers f s₀ (next_in s x).network (m + 1) (next-kept s g x).good)
+    (λ x r e bad. subst (λ (k : ℕ). OneOf k draining) (ap code_of bad ∙ code-refused r) (next-numbers s g x e))
 
-pub drained-numbers : (s : Network) → Good s → OneOf (drained s).refusal draining
-drained-numbers s g = subst (λ (d : Drained). OneOf d.refusal draining) (sym (drained-is s g)) (drain-numbers _ s s 0 g)
+pub drained-numbers : (s : Network) → Good s → OneOf (code (drained s).answer) draining
+drained-numbers s g = subst (λ (d : Drained). OneOf (code d.answer) draining) (sym (drained-is s g)) (drain-numbers _ s s 0 g)

@@ -1,31 +1,37 @@
 -- What comes of a step: refused by the first trial that is met, by the panel, or by 14; or done. What holds of each outcome holds of the
 -- step; and a step that is not refused is done.
 -- Assumes nothing.
-use mathlib.Core.{Bool.{Bool, true, false}, List.List, Logic.◌≢◌, Path.{◌≡◌, refl, sym, subst, ◌∙◌}}
+use mathlib.Core.{Bool.{Bool, true, false}, List.List, Logic.◌≢◌, Path.{◌≡◌, refl, sym, ap, subst, ◌∙◌}}
 use Prim.Native.Nat.{ℕ}
-use native.Mathlib.{Decide.ℕ_discrete, Omega.arith}
-use borrow.Author.Tests.{eq-eqb, ne_eqb}
-use Rattle.basics.{proofs.Choices.{ite-true, ite-false}, specs.Refusal.{Trial, first_of}}
-use Rattle.events.specs.declared.Answer.TheVariants.{Refused, Nothing}
+use native.Mathlib.{Decide.ℕ_discrete}
+use Rattle.std.specs.Prelude.{Option, Ok, Err, None}
+use Rattle.basics.proofs.{Choices.{ite-true, ite-false}, Refusals.{number-some, unless-case, unless-passed, unless-ok, unless-err}}
+use Rattle.basics.specs.Refusal.{Trial, first_of, number_of}
+use Rattle.basics.specs.declared.refused.Refusal.{Refusal, TheVariants.{NotInForm, ChannelFull}}
+use Rattle.events.specs.{Events.Answer, declared.Finished.Finished}
 use Rattle.panel.specs.declared.Next.{Next}
-use Rattle.promise.specs.View.{code_of}
+use Rattle.promise.{proofs.Happenings.code-ok, specs.View.code_of}
 use Rattle.channels.specs.Posting.{posted_all}
 use Rattle.house.specs.{NetForm.net_form, Places.{row_at, with_panel, with_row}, declared.Network.Network}
 use Rattle.steps.specs.{Steps.{refused_by, tried, settled, checked}, declared.Stepped.Stepped}
 
 -- ---- a refusal's number
 
-pub code-refused : (k : ℕ) → code_of (Refused k) ≡ k
+pub code-refused : (r : Refusal) → code_of (Err r) ≡ number_of r
 unfolding code_of
-code-refused k = refl
+code-refused r = refl
 
-pub code-nothing : code_of Nothing ≡ 0
-unfolding code_of
-code-nothing = refl
+pub code-nothing : code_of (Ok None) ≡ 0
+code-nothing = code-ok None
 
 -- what is refused is not accepted
-pub not-refused : {A : Type 0} {k : ℕ} → k ≢ 0 → code_of (Refused k) ≡ 0 → A
-not-refused {k = k} n z = absurd (n (sym (code-refused k) ∙ z))
+pub not-refused : {A : Type 0} (r : Refusal) → code_of (Err r) ≡ 0 → A
+not-refused r z = absurd (number-some r (sym (code-refused r) ∙ z))
+
+-- what holds of what finishes and of each refusal holds of an answer
+pub answer-of : (P : Answer → Type 0) → ((f : Option Finished) → P (Ok f)) → ((r : Refusal) → P (Err r)) → (a : Answer) → P a
+answer-of P ok err (Ok f) = ok f
+answer-of P ok err (Err r) = err r
 
 -- ---- 2 is tried first
 
@@ -34,7 +40,7 @@ module _ (s : Network) (a : Stepped) where
   unfolding checked
   checked-in-form h = ite-true _ _ h
 
-  pub checked_refused : net_form s ≡ false → checked s a ≡ refused_by s 2
+  pub checked_refused : net_form s ≡ false → checked s a ≡ refused_by s NotInForm
   unfolding checked
   checked_refused h = ite-false _ _ h
 
@@ -43,18 +49,16 @@ module _ (s : Network) (a : Stepped) where
 module _ (ts : List Trial) (s : Network) (a : Stepped) where
   pub tried-passed : first_of ts ≡ 0 → tried ts s a ≡ a
   unfolding tried
-  tried-passed z = ite-true _ _ (eq-eqb _ _ z)
+  tried-passed z = unless-passed ts _ _ z
 
-  pub tried-refused : first_of ts ≢ 0 → tried ts s a ≡ refused_by s (first_of ts)
+  pub tried-case : (P : Stepped → Type 0) → ((r : Refusal) → first_of ts ≡ number_of r → P (refused_by s r)) → (first_of ts ≡ 0 → P a) → P (tried ts s a)
   unfolding tried
-  tried-refused n = ite-false _ _ (ne_eqb _ _ n)
+  tried-case P refused passed = unless-case P ts a (refused_by s) passed refused
 
-  pub tried-case : (P : Stepped → Type 0) → (first_of ts ≢ 0 → P (refused_by s (first_of ts))) → (first_of ts ≡ 0 → P a) → P (tried ts s a)
-  tried-case P refused passed = by (ℕ_discrete (first_of ts) 0)
-    where
-      by : Dec (first_of ts ≡ 0) → P (tried ts s a)
-      by (yes z) = subst P (sym (tried-passed z)) (passed z)
-      by (no n) = subst P (sym (tried-refused n)) (refused n)
+  -- refused: the network is as it was, and the number is the first trial's
+  pub tried-refused : first_of ts ≢ 0 → ((tried ts s a).network ≡ s) × (code_of (tried ts s a).answer ≡ first_of ts)
+  tried-refused n =
+      tried-case (λ (x : Stepped). (x.network ≡ s) × (code_of x.answer ≡ first_of ts)) (λ r e. (refl, code-refused r ∙ sym e)) (λ z. absurd (n z))
 
 -- ---- then the panel, and at last 14
 
@@ -71,30 +75,43 @@ pub record Accepts (s : Network) (i : ℕ) (q : Next) : Type 0 where
   pub room : (posted_all (row_at s i) q.sends).fits ≡ true
 
 module _ (s s₁ : Network) (i : ℕ) (q : Next) where
-  pub settled-refused : code_of q.answer ≢ 0 → settled s s₁ i q ≡ refused_by s (code_of q.answer)
+  -- refused by the panel
+  pub settled-err : (r : Refusal) → q.answer ≡ Err r → settled s s₁ i q ≡ refused_by s r
   unfolding settled
-  settled-refused n = ite-false _ _ (ne_eqb _ _ n)
+  settled-err r e = unless-err _ _ e
 
-  pub settled-full : code_of q.answer ≡ 0 → (posted_all (row_at s₁ i) q.sends).fits ≡ false → settled s s₁ i q ≡ refused_by s 14
+  pub settled-refused : code_of q.answer ≢ 0 → settled s s₁ i q ≡ record { network = s; answer = q.answer }
+  settled-refused n = answer-of (λ (a : Answer). q.answer ≡ a → settled s s₁ i q ≡ record { network = s; answer = q.answer })
+      (λ f e. absurd (n (ap code_of e ∙ code-ok f))) (λ r e. settled-err r e ∙ ap (λ (a : Answer). record { network = s; answer = a }) (sym e)) q.answer refl
+
+  settled-ok : (f : Option Finished) → q.answer ≡ Ok f → (posted_all (row_at s₁ i) q.sends).fits ≡ true → settled s s₁ i q ≡ done_by s₁ i q
   unfolding settled
-  settled-full z full = ite-true _ _ (eq-eqb _ _ z) ∙ ite-false _ _ full
+  settled-ok f e fit = unless-ok _ _ e ∙ ite-true _ _ fit
+
+  settled-over : (f : Option Finished) → q.answer ≡ Ok f → (posted_all (row_at s₁ i) q.sends).fits ≡ false → settled s s₁ i q ≡ refused_by s ChannelFull
+  unfolding settled
+  settled-over f e full = unless-ok _ _ e ∙ ite-false _ _ full
+
+  pub settled-full : code_of q.answer ≡ 0 → (posted_all (row_at s₁ i) q.sends).fits ≡ false → settled s s₁ i q ≡ refused_by s ChannelFull
+  settled-full z full =
+      answer-of (λ (a : Answer). q.answer ≡ a → settled s s₁ i q ≡ refused_by s ChannelFull) (λ f e. settled-over f e full)
+      (λ r e. not-refused r (ap code_of (sym e) ∙ z)) q.answer refl
 
   pub settled-done : code_of q.answer ≡ 0 → (posted_all (row_at s₁ i) q.sends).fits ≡ true → settled s s₁ i q ≡ done_by s₁ i q
-  unfolding settled
-  settled-done z fit = ite-true _ _ (eq-eqb _ _ z) ∙ ite-true _ _ fit
+  settled-done z fit =
+      answer-of (λ (a : Answer). q.answer ≡ a → settled s s₁ i q ≡ done_by s₁ i q) (λ f e. settled-ok f e fit)
+      (λ r e. not-refused r (ap code_of (sym e) ∙ z)) q.answer refl
 
   pub settled_case :
-      (P : Stepped → Type 0) → (code_of q.answer ≢ 0 → P (refused_by s (code_of q.answer))) → P (refused_by s 14) →
+      (P : Stepped → Type 0) → ((r : Refusal) → q.answer ≡ Err r → P (refused_by s r)) → P (refused_by s ChannelFull) →
       (Accepts s₁ i q → P (done_by s₁ i q)) → P (settled s s₁ i q)
-  settled_case P refused full done = by (ℕ_discrete (code_of q.answer) 0)
+  settled_case P refused full done =
+      answer-of (λ (a : Answer). q.answer ≡ a → P (settled s s₁ i q)) (λ f e. posted f e (posted_all (row_at s₁ i) q.sends).fits refl)
+      (λ r e. subst P (sym (settled-err r e)) (refused r e)) q.answer refl
     where
-      posted : code_of q.answer ≡ 0 → (b : Bool) → (posted_all (row_at s₁ i) q.sends).fits ≡ b → P (settled s s₁ i q)
-      posted z true e = subst P (sym (settled-done z e)) (done (record { code = z; room = e }))
-      posted z false e = subst P (sym (settled-full z e)) full
-
-      by : Dec (code_of q.answer ≡ 0) → P (settled s s₁ i q)
-      by (yes z) = posted z (posted_all (row_at s₁ i) q.sends).fits refl
-      by (no n) = subst P (sym (settled-refused n)) (refused n)
+      posted : (f : Option Finished) → q.answer ≡ Ok f → (b : Bool) → (posted_all (row_at s₁ i) q.sends).fits ≡ b → P (settled s s₁ i q)
+      posted f e true t = subst P (sym (settled-ok f e t)) (done (record { code = ap code_of e ∙ code-ok f; room = t }))
+      posted f e false t = subst P (sym (settled-over f e t)) full
 
 -- ---- a step that is not refused
 
@@ -110,11 +127,11 @@ tried-accepted ts s a z = by (ℕ_discrete (first_of ts) 0)
     by : Dec (first_of ts ≡ 0) → Passed ts s a
     by (yes e) =
         record { trials = e; code = subst (λ (x : Stepped). code_of x.answer ≡ 0) (tried-passed ts s a e) z; is = tried-passed ts s a e }
-    by (no n) = not-refused n (subst (λ (x : Stepped). code_of x.answer ≡ 0) (tried-refused ts s a n) z)
+    by (no n) = absurd (n (sym (tried-refused ts s a n).1 ∙ z))
 
 pub settled-accepted : (s s₁ : Network) (i : ℕ) (q : Next) → code_of (settled s s₁ i q).answer ≡ 0 → Accepts s₁ i q
 settled-accepted s s₁ i q =
-    settled_case s s₁ i q (λ (a : Stepped). code_of a.answer ≡ 0 → Accepts s₁ i q) (λ n. not-refused n) (not-refused {k = 14} (omega arith)) (λ h z. h)
+    settled_case s s₁ i q (λ (a : Stepped). code_of a.answer ≡ 0 → Accepts s₁ i q) (λ r _. not-refused r) (not-refused ChannelFull) (λ h z. h)
 
 -- a step that a panel takes: its trials passed, the panel accepts, and it is done
 pub record Done (ts : List Trial) (s₁ : Network) (i : ℕ) (q : Next) (a : Stepped) : Type 0 where

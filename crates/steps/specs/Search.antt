@@ -1,8 +1,9 @@
 -- The search as a call: 2 is tried first.
 -- Assumes nothing.
-use Rattle.basics.specs.Choice.{ite}
-use Rattle.house.specs.{NetForm.net_form, Search.{nowhere, first_in}, declared.Network.Network}
-use Rattle.steps.specs.declared.Sought.{Sought}
+use Rattle.std.specs.Prelude.{not, [], ◌∷◌, Option, Result, Ok}
+use Rattle.basics.specs.Refusal.{refuse, met, and_then}
+use Rattle.basics.specs.declared.refused.Refusal.{Refusal, TheVariants.{NotInForm}}
+use Rattle.house.specs.{NetForm.net_form, Search.first_in, declared.InFlight.InFlight, declared.Network.Network}
 
-unfoldable pub sought : Network → Sought
-sought s = ite (net_form s) (record { refusal = 0; found = first_in s }) (record { refusal = 2; found = nowhere })
+unfoldable pub sought : Network → Result (Option InFlight) Refusal
+sought s = and_then (met (refuse NotInForm (not (net_form s)) ∷ [])) (Ok (first_in s))

@@ -1,7 +1,9 @@
 -- Counting below any bound: two counts that are more than the bound together meet, what passes and what does not are all,
 -- and a wider test counts no less.
 -- Assumes nothing.
-use mathlib.Core.{Bool.{Bool, true, false, not}, Path.{◌≡◌, refl, sym, ap}}
+use mathlib.Core.{Bool.{Bool, true, false, not}, List.{List, [], ◌∷◌}, Path.{◌≡◌, refl, sym, ap, ◌∙◌}}
+use lib.ListN.{length, get_or}
+use Rattle.std.{proofs.lemmas.List.Sums.sum_by-cons, specs.Prelude.count_by}
 use Prim.Native.Nat.{ℕ, zero, suc, ◌+◌, ◌≤◌, ◌<◌}
 use native.Mathlib.Omega.{arith}
 use Rattle.basics.specs.Below.{one_if, count_below}
@@ -42,3 +44,21 @@ pub count-more : (m : ℕ) (f g : ℕ → Bool) → ((k : ℕ) → k < m → f k
 unfolding count_below
 count-more zero f g h = omega arith
 count-more (suc m) f g h = omega (arith, count-more m f g (λ k l. h k (omega arith)), one_if-more (f m) (g m) (h m (omega arith)))
+
+-- the first number apart
+count-first : (n : ℕ) (f : ℕ → Bool) → count_below (suc n) f ≡ one_if (f 0) + count_below n (λ (j : ℕ). f (suc j))
+unfolding count_below
+count-first zero f = omega arith
+count-first (suc n) f = omega (arith, count-first n f)
+
+count_by-first : (x : Bool) (xs : List Bool) → count_by (λ b. b) (x ∷ xs) ≡ one_if x + count_by (λ b. b) xs
+unfolding one_if
+count_by-first true xs = sum_by-cons _ true xs
+count_by-first false xs = sum_by-cons _ false xs
+
+-- how many of a list are marked
+pub count-marked : (xs : List Bool) → count_by (λ b. b) xs ≡ count_below (length xs) (λ (j : ℕ). get_or xs j false)
+unfolding count_below
+count-marked [] = refl
+count-marked (x ∷ xs) =
+    count_by-first x xs ∙ ap (λ (m : ℕ). one_if x + m) (count-marked xs) ∙ sym (count-first (length xs) (λ (j : ℕ). get_or (x ∷ xs) j false))

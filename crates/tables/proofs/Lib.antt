@@ -1,4 +1,5 @@
 pub mod Filling
+pub mod Made
 pub mod Counting
 pub mod Marks
 pub mod Quorum

@@ -1,11 +1,13 @@
 -- The turns of the loops: what each keeps, where it begins and where it stops.
 -- Assumes nothing.
-use mathlib.Core.{Bool.{Bool, true, false}, List.{List, ◌++◌}, Path.{◌≡◌, refl, sym, ap, ap₂, ◌∙◌}}
-use Prim.Native.Nat.{ℕ, zero, suc, ◌+◌, ◌-◌, ◌≤◌, ◌<◌}
-use native.Mathlib.{Nat.{zero-add, add-zero, add-suc, sub-zero}, Numerals.add-one, Omega.arith}
-use lib.{Dec.{leb, ltb, eqb}, ListN.{length, get_or, drop, replicate, get_or-eq_default}}
-use borrow.Author.Tests.{le-leb, lt-leb, eq-eqb}
-use Rattle.basics.{proofs.Below.{all-next, all_of}, proofs.Choices.{ite-true, ite-false}, specs.Below.{all_below, list_below}}
+use mathlib.Core.{Bool.{Bool, true, false, cond}, List.{List, ◌++◌}, Path.{◌≡◌, refl, sym, ap, ap₂, subst, ◌∙◌}}
+use Prim.Native.Nat.{ℕ, zero, suc, ◌+◌, ◌-◌, ◌≤◌, ◌<◌, min}
+use native.Mathlib.{Nat.{zero-add, add-zero, add-suc}, Decide.dec_lt, Omega.arith}
+use lib.{Dec.{leb, ltb, eqb}, ListN.{length, get_or, drop, replicate, take, length-drop, drop_of_length-le, get_or-eq_default}}
+use lib.Seq.{get_or-drop, ext_get_or, drop-cons, take_all}
+use borrow.Author.Tests.{le-leb, lt-leb, eq-eqb, ltb-true, ltb-false}
+use Rattle.basics.{proofs.Below.{all-next, all_of, length-list_below, get_or-list_below}, proofs.Choices.{ite-true, ite-false}, specs.Below.{all_below, list_below}}
+use Rattle.std.{proofs.lemmas.Iterator.Adapters.position_from-zero, specs.List.{position_from, position}, specs.Prelude.{nat_lt, MatchOption, Option, None, Some}}
 use Rattle.basics.specs.Choice.{ite, both}
 use Rattle.tables.specs.{Form.{entry_ok, unknown_ok, history_ok}, Lines.{leading, leaving, without}, Places.{no_write, w_at}}
 use Rattle.tables.specs.declared.{Line.Line, WriteNo.WriteNo}
@@ -54,43 +56,67 @@ module _ (history : List ℕ) (high : ℕ) where
       past j a true e = ite-true _ _ e
       past j a false e = ite-false _ _ e ∙ eq-eqb _ _ (get_or-eq_default history 0 (omega (arith, long, a)))
 
--- ---- leaving
+-- ---- leaving: up to the first entry above x; past the last place an entry reads as zero
 
 module _ (l : Line) (x : ℕ) where
-  pub leaving-first : 0 + leading l x (l.len - 0) 0 ≡ leaving l x
-  unfolding leaving
-  leaving-first = zero-add _ ∙ ap (λ (n : ℕ). leading l x n 0) (sub-zero l.len)
+  abbrev ahead : WriteNo → Bool
+  ahead w = nat_lt x w.0
 
-  pub leaving-next : (m : ℕ) → m < l.len → w_at l.sn m ≤ x → (m + 1) + leading l x (l.len - (m + 1)) (m + 1) ≡ m + leading l x (l.len - m) m
-  leaving-next m h g =
-      let left : l.len - m ≡ suc (l.len - (m + 1)) = omega arith in
-      let more = ap (λ (n : ℕ). leading l x n m) left ∙ leading-more l x (l.len - (m + 1)) m g in
-      ap (λ (k : ℕ). (m + 1) + leading l x (l.len - (m + 1)) k) (add-one m) ∙ omega (arith, more)
-
-  pub leaving-here : (m : ℕ) → m < l.len → x < w_at l.sn m → m + leading l x (l.len - m) m ≡ m
-  leaving-here m h g =
-      let left : l.len - m ≡ suc (l.len - (m + 1)) = omega arith in
-      omega (arith, ap (λ (n : ℕ). leading l x n m) left ∙ leading-no-more l x (l.len - (m + 1)) m g)
-
-  pub leaving-end : (m : ℕ) → l.len ≤ m → m + leading l x (l.len - m) m ≡ m
+  all-past : length l.sn ≡ 100 → (m k : ℕ) → 100 ≤ k → leading l x m k ≡ m
   unfolding leading
-  leaving-end m h =
-      let none : l.len - m ≡ 0 = omega arith in
-      ap (λ (n : ℕ). m + leading l x n m) none ∙ add-zero m
+  all-past long zero k h = refl
+  all-past long (suc m) k h = leading-more l x m k (omega (arith, w_at-past l k long h)) ∙ ap suc (all-past long m (suc k) (omega arith))
 
-  pub leaving-past : length l.sn ≡ 100 → (m : ℕ) → 100 ≤ m → m ≤ l.len → m + leading l x (l.len - m) m ≡ l.len
+  -- what leads from place k on stands before the first entry that is above x, or is all
+  first-ahead : length l.sn ≡ 100 → (m k i : ℕ) → MatchOption (position_from ahead i (take m (drop k l.sn))) (leading l x m k ≡ m) (λ j. j ≡ i + leading l x m k)
   unfolding leading
-  leaving-past long m h g = omega (arith, past (l.len - m) m h)
+  first-ahead long zero k i = refl
+  first-ahead long (suc m) k i = by (dec_lt k (length l.sn)) (first-ahead long m (suc k) (i + 1))
     where
-      past : (d k : ℕ) → 100 ≤ k → leading l x d k ≡ d
-      past zero k i = refl
-      past (suc d) k i = leading-more l x d k (omega (arith, w_at-past l k long i)) ∙ ap suc (past d (suc k) (omega arith))
+      pick : (b : Bool) → ltb x (w_at l.sn k) ≡ b → (o : Option ℕ) → MatchOption o (leading l x m (suc k) ≡ m) (λ j. j ≡ (i + 1) + leading l x m (suc k)) →
+          MatchOption (cond b (Some i) o) (leading l x (suc m) k ≡ suc m) (λ j. j ≡ i + leading l x (suc m) k)
+      pick true e o r = omega (arith, leading-no-more l x m k (ltb-true _ _ e))
+      pick false e None r = omega (arith, leading-more l x m k (ltb-false _ _ e), r)
+      pick false e (Some j) r = omega (arith, leading-more l x m k (ltb-false _ _ e), r)
 
--- ---- without, which stops where the places end; behind stands zero already
+      by : Dec (k < length l.sn) → MatchOption (position_from ahead (i + 1) (take m (drop (suc k) l.sn))) (leading l x m (suc k) ≡ m) (λ j. j ≡ (i + 1) + leading l x m (suc k)) →
+          MatchOption (position_from ahead i (take (suc m) (drop k l.sn))) (leading l x (suc m) k ≡ suc m) (λ j. j ≡ i + leading l x (suc m) k)
+      by (yes h) rest = rw (drop-cons l.sn k no_write h) (pick (ltb x (w_at l.sn k)) refl _ rest)
+      by (no h) rest = let o : length l.sn ≤ k = omega arith in rw (drop_of_length-le l.sn o) (all-past long (suc m) k (omega (arith, long)))
 
-pub without-made : (l : Line) (m k left : ℕ) (sn : List WriteNo) → length l.sn ≡ 100 → k ≤ 100 → 100 ≤ k + m → left ≡ l.len - m →
-    sn ≡ list_below k (λ (i : ℕ). get_or l.sn (i + m) no_write) ++ drop k (replicate 100 no_write) → ◌≡◌ {A = Line} (record { len = left; sn = sn }) (without l m)
-unfolding without
-without-made l m k left sn long h end e filled =
-    ap₂ (λ (n : ℕ) (s : List WriteNo). record { len = n; sn = s }) e
-    (filled ∙ filled-rest (λ (i : ℕ). get_or l.sn (i + m) no_write) no_write 100 k h (λ i a b. get_or-eq_default l.sn no_write (omega (arith, long, end, a))))
+  pub leaving-all : length l.sn ≡ 100 → position ahead (take l.len l.sn) ≡ None → l.len ≡ leaving l x
+  unfolding leaving
+  leaving-all long e =
+      sym (subst (λ (o : Option ℕ). MatchOption o (leading l x l.len 0 ≡ l.len) (λ j. j ≡ 0 + leading l x l.len 0)) (sym (position_from-zero ahead (take l.len l.sn)) ∙ e) (first-ahead long l.len 0 0))
+
+  pub leaving-some : length l.sn ≡ 100 → (m : ℕ) → position ahead (take l.len l.sn) ≡ Some m → m ≡ leaving l x
+  unfolding leaving
+  leaving-some long m e =
+      subst (λ (o : Option ℕ). MatchOption o (leading l x l.len 0 ≡ l.len) (λ j. j ≡ 0 + leading l x l.len 0)) (sym (position_from-zero ahead (take l.len l.sn)) ∙ e) (first-ahead long l.len 0 0)
+      ∙ zero-add _
+
+-- ---- without: what is copied to the front, and zero behind it
+
+module _ (l : Line) (m from : ℕ) (long : length l.sn ≡ 100) (here : from ≡ min m 100) where
+  moved : ℕ → WriteNo
+  moved k = get_or l.sn (k + m) no_write
+
+  front : drop from l.sn ≡ list_below (100 - from) moved
+  unfolding moved
+  front = ext_get_or no_write _ _ (size ∙ sym (length-list_below (100 - from) moved)) (λ i h. at i (omega (arith, h, size)))
+    where
+      size : length (drop from l.sn) ≡ 100 - from
+      size = omega (arith, length-drop from l.sn, long)
+
+      at : (i : ℕ) → i < 100 - from → get_or (drop from l.sn) i no_write ≡ get_or (list_below (100 - from) moved) i no_write
+      at i h =
+          let e : from + i ≡ i + m = omega arith in
+          get_or-drop from l.sn i no_write ∙ ap (λ (j : ℕ). get_or l.sn j no_write) e ∙ sym (get_or-list_below (100 - from) moved i no_write h)
+
+  pub without-made : (left : ℕ) (kept : List WriteNo) → left ≡ l.len - m → kept ≡ take (length l.sn - from) (drop from l.sn) →
+      ◌≡◌ {A = Line} (record { len = left; sn = kept ++ drop (100 - from) (replicate 100 no_write) }) (without l m)
+  unfolding without moved
+  without-made left kept e copied =
+      ap₂ (λ (n : ℕ) (s : List WriteNo). record { len = n; sn = s }) e
+      (ap (λ (s : List WriteNo). s ++ drop (100 - from) (replicate 100 no_write)) (copied ∙ take_all (length l.sn - from) (drop from l.sn) (omega (arith, length-drop from l.sn)) ∙ front)
+      ∙ filled-rest moved no_write 100 (100 - from) (omega arith) (λ k a b. get_or-eq_default l.sn no_write (omega (arith, long, here, a))))

@@ -1,14 +1,16 @@
 -- The laws of writing a message into a lent area: which answer exactly when, what the area holds afterwards, and that
 -- reading gives the message back.
 -- Assumes nothing.
-use mathlib.Core.{Bool.{Bool, true, false}, List.{List, ◌++◌}, Logic.◌↔◌, Path.{◌≡◌, refl, sym, ap, ◌∙◌}}
+use mathlib.Core.{Bool.{Bool, true, false}, List.{List, ◌++◌}, Logic.◌↔◌, Path.{◌≡◌, refl, ap, ◌∙◌}}
 use Prim.Native.Nat.{ℕ, ◌≤◌, ◌<◌}
 use native.Mathlib.{Nat.zero-add, Omega.arith}
 use lib.{Dec.ltb, ListN.{length, drop}, Seq.{sets, sets-eq}}
 use borrow.Author.Tests.{ltb-true, ltb-false}
+use Rattle.std.specs.Prelude.{Ok, Err}
+use Rattle.basics.specs.Kinds.{byte_of}
+use Rattle.basics.specs.declared.kinds.Kind.{Kind}
+use Rattle.basics.specs.declared.refused.Refusal.{Refusal, TheVariants.{AreaTooShort, UnknownKind}}
 use Rattle.codec.{proofs.Items.length-written, specs.Items.size_of}
-use Rattle.wire.specs.declared.Taken.TheVariants as Read
-use Rattle.wire.specs.declared.Put.TheVariants as Wrote
 use Rattle.wire.specs.Messages.{wire, item_of, bytes_of_message, sendable, reading, Written, writing}
 use Rattle.wire.proofs.{Cases.{writing-short, writing-refused, writing-sent}, Laws.{Message, proper, read-written}}
 
@@ -18,9 +20,9 @@ length-bytes k v m = length-written wire (item_of k v) (proper k v m)
 
 module _ (k v : ℕ) (area : List ℕ) where
   pub data Seen : Type 0 where
-    short : length area < size_of wire k → writing k v area ≡ record { answer = Wrote.Refused 3; area = area } → Seen
-    no-message : size_of wire k ≤ length area → sendable k v ≡ false → writing k v area ≡ record { answer = Wrote.Refused 15; area = area } → Seen
-    sent : size_of wire k ≤ length area → sendable k v ≡ true → writing k v area ≡ record { answer = Wrote.Used (size_of wire k); area = sets area 0 (bytes_of_message k v) } → Seen
+    short : length area < size_of wire k → writing k v area ≡ record { answer = Err AreaTooShort; area = area } → Seen
+    no-message : size_of wire k ≤ length area → sendable k v ≡ false → writing k v area ≡ record { answer = Err UnknownKind; area = area } → Seen
+    sent : size_of wire k ≤ length area → sendable k v ≡ true → writing k v area ≡ record { answer = Ok (size_of wire k); area = sets area 0 (bytes_of_message k v) } → Seen
 
   seen-message : size_of wire k ≤ length area → (b : Bool) → sendable k v ≡ b → Seen
   seen-message h true e = sent h e (writing-sent k v area h e)
@@ -35,49 +37,43 @@ module _ (k v : ℕ) (area : List ℕ) where
 
   -- ---- exactly when
 
-  other : {A : Type 0} {a b : ℕ} → Wrote.Refused a ≡ Wrote.Used b → A
-  other e = let z : ◌≡◌ {A = ℕ} 0 1 = cc in absurd (omega arith)
-
-  other-number : {A : Type 0} → Wrote.Refused 3 ≡ Wrote.Refused 15 → A
-  other-number e = let z : ◌≡◌ {A = ℕ} 3 15 = cc in absurd (omega arith)
-
   answered : {o : Written} → writing k v area ≡ o → (writing k v area).answer ≡ o.answer
   answered e = ap (λ (o : Written). o.answer) e
 
-  short-of : (writing k v area).answer ≡ Wrote.Refused 3 → Seen → length area < size_of wire k
+  short-of : (writing k v area).answer ≡ Err AreaTooShort → Seen → length area < size_of wire k
   short-of e (short h r) = h
-  short-of e (no-message h n r) = other-number (sym e ∙ answered r)
-  short-of e (sent h y r) = other (sym e ∙ answered r)
+  short-of e (no-message h n r) = let z = answered r in cc
+  short-of e (sent h y r) = let z = answered r in cc
 
-  none_of : (writing k v area).answer ≡ Wrote.Refused 15 → Seen → (size_of wire k ≤ length area) × (sendable k v ≡ false)
-  none_of e (short h r) = other-number (sym (answered r) ∙ e)
+  none_of : (writing k v area).answer ≡ Err UnknownKind → Seen → (size_of wire k ≤ length area) × (sendable k v ≡ false)
+  none_of e (short h r) = let z = answered r in cc
   none_of e (no-message h n r) = (h, n)
-  none_of e (sent h y r) = other (sym e ∙ answered r)
+  none_of e (sent h y r) = let z = answered r in cc
 
-  sent-of : (n : ℕ) → (writing k v area).answer ≡ Wrote.Used n → Seen → (size_of wire k ≤ length area) × (sendable k v ≡ true)
-  sent-of n e (short h r) = other (sym (answered r) ∙ e)
-  sent-of n e (no-message h x r) = other (sym (answered r) ∙ e)
+  sent-of : (n : ℕ) → (writing k v area).answer ≡ Ok n → Seen → (size_of wire k ≤ length area) × (sendable k v ≡ true)
+  sent-of n e (short h r) = let z = answered r in cc
+  sent-of n e (no-message h x r) = let z = answered r in cc
   sent-of n e (sent h y r) = (h, y)
 
-  pub write-refused-3-iff : ((writing k v area).answer ≡ Wrote.Refused 3) ↔ (length area < size_of wire k)
+  pub write-refused-3-iff : ((writing k v area).answer ≡ Err AreaTooShort) ↔ (length area < size_of wire k)
   write-refused-3-iff = (λ e. short-of e seen, λ h. answered (writing-short k v area h))
 
-  pub write-refused-15-iff : ((writing k v area).answer ≡ Wrote.Refused 15) ↔ ((size_of wire k ≤ length area) × (sendable k v ≡ false))
+  pub write-refused-15-iff : ((writing k v area).answer ≡ Err UnknownKind) ↔ ((size_of wire k ≤ length area) × (sendable k v ≡ false))
   write-refused-15-iff = (λ e. none_of e seen, λ h. answered (writing-refused k v area h.0 h.1))
 
-  pub write-accepted-iff : ((n : ℕ) × ((writing k v area).answer ≡ Wrote.Used n)) ↔ ((size_of wire k ≤ length area) × (sendable k v ≡ true))
+  pub write-accepted-iff : ((n : ℕ) × ((writing k v area).answer ≡ Ok n)) ↔ ((size_of wire k ≤ length area) × (sendable k v ≡ true))
   write-accepted-iff = (λ a. sent-of a.0 a.1 seen, λ h. (size_of wire k, answered (writing-sent k v area h.0 h.1)))
 
   -- ---- the area
 
-  left_alone : (n : ℕ) → (writing k v area).answer ≡ Wrote.Refused n → Seen → (writing k v area).area ≡ area
+  left_alone : (r : Refusal) → (writing k v area).answer ≡ Err r → Seen → (writing k v area).area ≡ area
   left_alone n e (short h r) = ap (λ (o : Written). o.area) r
   left_alone n e (no-message h x r) = ap (λ (o : Written). o.area) r
-  left_alone n e (sent h y r) = other (sym e ∙ answered r)
+  left_alone n e (sent h y r) = let z = answered r in cc
 
   -- a refusal leaves the area as it was
-  pub refused-untouched : (n : ℕ) → (writing k v area).answer ≡ Wrote.Refused n → (writing k v area).area ≡ area
-  refused-untouched n e = left_alone n e seen
+  pub refused-untouched : (r : Refusal) → (writing k v area).answer ≡ Err r → (writing k v area).area ≡ area
+  refused-untouched r e = left_alone r e seen
 
   -- a message that is taken stands at the front, and the area past it is as it was
   pub written-front : Message k v → size_of wire k ≤ length area → (writing k v area).area ≡ bytes_of_message k v ++ drop (size_of wire k) area
@@ -86,7 +82,11 @@ module _ (k v : ℕ) (area : List ℕ) where
       ∙ sets-eq (bytes_of_message k v) area 0 (omega (arith, length-bytes k v m))
       ∙ ap (λ (n : ℕ). bytes_of_message k v ++ drop n area) (zero-add _ ∙ length-bytes k v m)
 
-  -- and is read back from there
-  pub written-reads-back : Message k v → size_of wire k ≤ length area → reading (writing k v area).area ≡ Read.Message k v (size_of wire k)
-  written-reads-back m h =
-      ap reading (written-front m h) ∙ read-written k v (drop (size_of wire k) area) m ∙ ap (Read.Message k v) (length-bytes k v m)
+-- and is read back from there
+pub written-reads-back :
+    (k : Kind) (v : ℕ) (area : List ℕ) → Message (byte_of k) v → size_of wire (byte_of k) ≤ length area →
+    reading (writing (byte_of k) v area).area ≡ Ok (record { kind = k; value = v; used = size_of wire (byte_of k) })
+written-reads-back k v area m h =
+    ap reading (written-front (byte_of k) v area m h)
+    ∙ read-written k v (drop (size_of wire (byte_of k)) area) m
+    ∙ ap (λ (n : ℕ). Ok (record { kind = k; value = v; used = n })) (length-bytes (byte_of k) v m)

@@ -5,18 +5,14 @@ ghost use Rattle.std.specs.Prelude.{◌≡◌};
 ghost use Rattle.codec.specs.Items.{size_of};
 ghost use Rattle.wire.specs.Messages.{wire, reading, writing, Written};
 
-// What reading answers: a message and how many bytes it used, or the number of a refusal.
-#[derive(Clone, Copy)]
-pub enum Taken {
-    Message { kind: u8, value: u32, used: usize },
-    Refused(u8),
-}
+use basics::{Kind, Refusal};
 
-// What writing answers: how many bytes it used, or the number of a refusal.
-#[derive(Clone, Copy)]
-pub enum Put {
-    Used(usize),
-    Refused(u8),
+// A message that was read, and how many bytes it used.
+#[derive(Clone, Copy, Debug, PartialEq, Eq)]
+pub struct Taken {
+    pub kind: Kind,
+    pub value: u32,
+    pub used: usize,
 }
 
 // How many bytes a message of this kind has; a byte that is no kind counts one.
@@ -24,56 +20,59 @@ pub enum Put {
 pub fn size_of(kind: u8) -> usize
     ensures { result ≡ size_of wire kind }
 {
-    if kind < 2 { 5 } else { 1 }
+    let Ok(kind) = Kind::try_from(kind) else {
+        return 1;
+    };
+    match kind {
+        Kind::Write0 | Kind::Write1 => 5,
+        Kind::Read | Kind::Proceed => 1,
+    }
 }
 
-#[tactic(auto, using(crate::proofs::Cases::cut))]
-pub fn read_message(bytes: &[u8]) -> Taken
+#[tactic(auto, using(crate::proofs::Cases::read))]
+pub fn read_message(bytes: &[u8]) -> Result<Taken, Refusal>
     ensures { result ≡ reading bytes.now }
 {
-    if bytes.len() == 0 {
-        return Taken::Refused(16);
-    }
-    let kind = bytes[0];
-    if 4 <= kind {
-        return Taken::Refused(15);
-    }
-    if 2 <= kind {
-        return Taken::Message {
+    let [first, body @ ..] = bytes else {
+        return Err(Refusal::CutShort);
+    };
+    let kind = Kind::try_from(*first)?;
+    match kind {
+        Kind::Write0 | Kind::Write1 => {
+            if body.len() < 4 {
+                return Err(Refusal::CutShort);
+            }
+            Ok(Taken {
+                kind,
+                value: codec::word_at(body, 0),
+                used: 5,
+            })
+        }
+        Kind::Read | Kind::Proceed => Ok(Taken {
             kind,
             value: 0,
             used: 1,
-        };
-    }
-    if bytes.len() < 5 {
-        return Taken::Refused(16);
-    }
-    let value = codec::word_at(bytes, 1);
-    Taken::Message {
-        kind,
-        value,
-        used: 5,
+        }),
     }
 }
 
-pub fn write_message(kind: u8, value: u32, area: &mut [u8]) -> Put
+// How many bytes the message used in the area.
+#[tactic(auto, using(crate::proofs::Cases::written_by))]
+pub fn write_message(kind: u8, value: u32, area: &mut [u8]) -> Result<usize, Refusal>
     ensures { record { answer = result; area = area.new } ≡ writing kind value area.old }
 {
     let size = size_of(kind);
     if area.len() < size {
-        return Put::Refused(3);
+        return Err(Refusal::AreaTooShort);
     }
-    if 4 <= kind {
-        return Put::Refused(15);
-    }
-    if 2 <= kind {
-        if value != 0 {
-            return Put::Refused(15);
+    match Kind::try_from(kind)? {
+        Kind::Write0 | Kind::Write1 => codec::put_word(area, 1, value),
+        Kind::Read | Kind::Proceed => {
+            if value != 0 {
+                return Err(Refusal::UnknownKind);
+            }
         }
-        area[0] = kind;
-        return Put::Used(size);
     }
     area[0] = kind;
-    codec::put_word(area, 1, value);
-    Put::Used(size)
+    Ok(size)
 }

@@ -1,10 +1,9 @@
 use Prim.Native.Nat.{◌≤◌, ◌-◌}
 use lib.ListN.{length}
-use mathlib.Core.Path.{◌≡◌}
 use Rattle.bench.proofs.read_input.Given as goal
 
 abbrev pub invariant-loop-done : goal.invariant-loop-done
-invariant-loop-done g l = (l.done ≤ length l.area) × (length l.area ≡ length l.initial.area)
+invariant-loop-done g l = l.done ≤ length l.area
 
 abbrev pub decreases-loop-done : goal.decreases-loop-done
 decreases-loop-done g l = length l.initial.area - l.done

@@ -1,11 +1,7 @@
-use Prim.Native.Nat.{◌≤◌, ◌-◌}
 use mathlib.Core.Path.{◌≡◌}
-use Rattle.messages.{specs.Sends.proceeds_to}
+use Rattle.messages.specs.Sends.{proceeds_to}
 use Rattle.channels.specs.Posting.{posts}
 use Rattle.channels.proofs.post_proceeds.Given as goal
 
-abbrev pub invariant-loop-i : goal.invariant-loop-i
-invariant-loop-i l = (l.i ≤ l.m) × (l.p ≡ posts l.initial.p (proceeds_to l.i l.peer))
-
-abbrev pub decreases-loop-i : goal.decreases-loop-i
-decreases-loop-i l = l.m - l.i
+abbrev pub invariant-loop : goal.invariant-loop
+invariant-loop l = l.p ≡ posts l.fn.s (proceeds_to l.counter l.fn.peer)

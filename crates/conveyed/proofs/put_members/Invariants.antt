@@ -1,12 +1,8 @@
-use Prim.Native.Nat.{ℕ, ◌≤◌, ◌-◌}
+use Prim.Native.Nat.{ℕ}
 use lib.ListN.{get_or}
-use Rattle.carried.{specs.Laid.Laid}
-use Rattle.carried.specs.Panels.{rows_below, panel_bytes}
+use Rattle.carried.specs.{Laid.Laid, Panels.{rows_below, panel_bytes}}
 use Rattle.house.specs.Places.{nobody}
 use Rattle.conveyed.proofs.put_members.Given as goal
 
 abbrev pub invariant-loop-i : goal.invariant-loop-i
-invariant-loop-i l = (l.i ≤ 7) × Laid l.initial.out 0 (rows_below l.i (λ (k : ℕ). panel_bytes (get_or l.ps k nobody).tables)) l.out
-
-abbrev pub decreases-loop-i : goal.decreases-loop-i
-decreases-loop-i l = 7 - l.i
+invariant-loop-i l = Laid l.initial.out 0 (rows_below l.i (λ (k : ℕ). panel_bytes (get_or l.fn.ps k nobody).tables)) l.out

@@ -1,12 +1,9 @@
-use Prim.Native.Nat.{ℕ, ◌≤◌, ◌-◌}
+use Prim.Native.Nat.{ℕ}
 use lib.ListN.{get_or}
-use Rattle.carried.{specs.Laid.Laid, specs.Panels.rows_below}
+use Rattle.carried.specs.{Laid.Laid, Panels.rows_below}
 use Rattle.channels.specs.Channels.{no_row}
 use Rattle.conveyed.specs.Networks.{row_bytes}
 use Rattle.conveyed.proofs.put_rows.Given as goal
 
 abbrev pub invariant-loop-i : goal.invariant-loop-i
-invariant-loop-i l = (l.i ≤ 7) × Laid l.initial.out 10969 (rows_below l.i (λ (k : ℕ). row_bytes (get_or l.rs k no_row))) l.out
-
-abbrev pub decreases-loop-i : goal.decreases-loop-i
-decreases-loop-i l = 7 - l.i
+invariant-loop-i l = Laid l.initial.out 10969 (rows_below l.i (λ (k : ℕ). row_bytes (get_or l.fn.rs k no_row))) l.out

@@ -1,17 +1,10 @@
-use borrow.Author.Rules.{rules}
-use mathlib.Core.{List.{append-nil}, Path.◌≡◌}
-use native.Mathlib.Omega.{arith}
-use Rattle.channels.specs.Channels.{no_channel}
-use Rattle.tables.proofs.Filling.{filled_none, filled_next}
-use Rattle.conveyed.specs.Networks.{row_from}
+use Rattle.std.proofs.Common.{rules, ◌+◌, ◌*◌, ℕ, ap, List}
+use Rattle.channels.specs.declared.{Channel.Channel}
+use Rattle.conveyed.proofs.{Made.made-by}
+use Rattle.conveyed.specs.Networks.{row_from, channel_from}
 use Rattle.conveyed.proofs.row_from.Goals as goal
-
-pub loop-j-init : goal.loop-j-init
-loop-j-init c = (search rules, filled_none _ _)
-
-pub loop-j-preserved : goal.loop-j-preserved
-loop-j-preserved c = let i = c.loop-j.invariant in (omega arith, simp (c.channel_from.ensures, i.1) (filled_next _ no_channel _ _ (omega arith)))
 
 pub returns : goal.returns
 unfolding row_from
-returns c = let e : c.loop-j.j ≡ 7 = omega arith in simp (c.loop-j.invariant.1, e, append-nil)
+returns c =
+    ap (λ (to : List Channel). record { to = to }) (made-by _ _ 7 (λ (j : ℕ). channel_from c.args.bytes.now (c.args.at + 12 * j)) (search rules) c.from_fn.ensures.items)

@@ -1,18 +1,13 @@
 use borrow.Author.Rules.{rules}
-use mathlib.Core.{Path.{◌≡◌, refl}}
-use native.Mathlib.Omega.{arith}
-use Rattle.basics.{proofs.Below.count_next, specs.Below.count_below}
+use mathlib.Core.Path.{◌≡◌, ◌∙◌}
+use lib.ListN.{length}
+use Rattle.std.specs.Prelude.{count_by}
+use Rattle.std.proofs.iter.runs.Made.{chains}
+use Rattle.tables.proofs.Counting.{count-marked}
 use Rattle.tables.proofs.enough.Goals as goal
 
-pub loop-j-init : goal.loop-j-init
-unfolding count_below
-loop-j-init c = (search rules, search rules, refl)
-
-pub overflow_add-count : goal.overflow_add-count
-overflow_add-count c = omega arith
-
-pub loop-j-preserved : goal.loop-j-preserved
-loop-j-preserved c = let i = c.loop-j.invariant in (omega arith, omega arith, simp (count_next, c.one_if-count.ensures.0, i.2))
-
 pub returns : goal.returns
-returns c = let e : c.loop-j.j ≡ 7 = omega arith in simp (c.wide.ensures.0, c.minus.ensures, c.loop-j.invariant.2, e)
+returns c =
+    let e : c.count-count.result ≡ count_by (λ b. b) c.args.marked = search (rules, chains) in
+    let long : length c.args.marked ≡ 7 = search rules in
+    simp (c.from.ensures, c.saturating_sub.ensures, e ∙ count-marked c.args.marked, long)

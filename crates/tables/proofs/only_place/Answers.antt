@@ -1,8 +1,8 @@
-use Rattle.tables.proofs.{Marks.{only_set, only_none}}
+use borrow.Author.Rules.{rules}
+use Rattle.tables.proofs.Made.{made-by}
+use Rattle.tables.specs.Marks.{only_place}
 use Rattle.tables.proofs.only_place.Goals as goal
 
-pub returns-then-k-lt7 : goal.returns-then-k-lt7
-returns-then-k-lt7 c = only_set _
-
-pub returns-else-k-lt7 : goal.returns-else-k-lt7
-returns-else-k-lt7 c = only_none _ c.if-k-lt7.false
+pub returns : goal.returns
+unfolding only_place
+returns c = made-by _ _ _ _ (search rules) c.from_fn.ensures.items

@@ -1,5 +1,0 @@
-use Rattle.edges.proofs.{Pouring.fits-as}
-use Rattle.edges.proofs.pack_write.Goals as goal
-
-pub returns : goal.returns
-returns c = fits-as _ _ _ c.write_done.ensures c.pack.ensures

@@ -1,4 +1,0 @@
-use Rattle.house.proofs.nothing_at.Goals as goal
-
-pub returns : goal.returns
-returns c = simp (c.both.ensures, c.unused.ensures)
