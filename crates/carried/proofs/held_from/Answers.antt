@@ -1,5 +1,5 @@
 use borrow.Author.Rules.{rules}
-use Rattle.carried.proofs.Made.{made-by}
+use Rattle.tables.proofs.Made.{made-by}
 use Rattle.carried.proofs.held_from.Goals as goal
 
 pub returns : goal.returns

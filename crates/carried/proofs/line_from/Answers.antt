@@ -1,6 +1,6 @@
 use Prim.Native.Nat.{ℕ, ◌+◌}
 use borrow.Author.Rules.{rules}
-use Rattle.carried.proofs.Made.{made-by}
+use Rattle.tables.proofs.Made.{made-by}
 use Rattle.carried.specs.Panels.{line_from, write_no_from}
 use Rattle.carried.proofs.line_from.Goals as goal
 
