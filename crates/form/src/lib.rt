@@ -10,7 +10,7 @@ use basics::{both, choose};
 use tables::{Hold, Line, ReadNo, WriteNo};
 
 // What a panel is doing: nothing; writing (line 3); reading, first wait (line 7); reading, second wait with its sn (line 9).
-#[derive(Clone, Copy)]
+#[derive(Clone, Copy, Debug, PartialEq, Eq)]
 pub enum Operation {
     Idle,
     Writing,
