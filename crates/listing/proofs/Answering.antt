@@ -5,9 +5,12 @@ use Prim.Native.Nat.{ℕ, ◌≤◌, ◌<◌}
 use native.Mathlib.{Nat.zero-add, Omega.arith}
 use lib.{Dec.ltb, ListN.{length, drop}, Seq.{sets, sets-eq}}
 use borrow.Author.Tests.{ltb-true, ltb-false, lt-ltb, le-ltb}
-use Rattle.basics.proofs.Choices.{ite-true, ite-false}
+use Rattle.std.specs.Prelude.{Result, Ok, Err}
+use Rattle.basics.{proofs.Choices.{ite-true, ite-false}, specs.Refusal.code}
+use Rattle.basics.specs.declared.refused.Refusal.{Refusal, TheVariants.{AreaTooShort}}
+use Rattle.steps.specs.Drain.{counted}
 use Rattle.text.specs.Text.{too_long}
-use Rattle.listing.specs.{Listing.{whole_text, listing_of, longest, Outcome, listing}, Putting.Put, declared.Listed.Listed}
+use Rattle.listing.specs.{Listing.{whole_text, listing_of, longest, Outcome, listing}, Putting.Put}
 
 -- ---- which text
 
@@ -26,26 +29,26 @@ too-long-9 e = ap (λ (x : List ℕ). length x) e
 -- ---- the call
 
 module _ (bytes area : List ℕ) where
-  pub short : length area < longest → record { answer = record { refusal = 3; length = 0 }; area = area } ≡ listing bytes area
+  pub short : length area < longest → record { answer = Err AreaTooShort; area = area } ≡ listing bytes area
   unfolding listing
   short h = sym (ite-true _ _ (lt-ltb _ _ h))
 
   pub done :
       {bs area' : List ℕ} {k : ℕ} → longest ≤ length area → bs ≡ listing_of bytes → Put area 0 bs area' k →
-      record { answer = record { refusal = 0; length = k }; area = area' } ≡ listing bytes area
+      record { answer = Ok k; area = area' } ≡ listing bytes area
   unfolding listing
   done {bs} {area'} {k} h e p =
       let long : k ≡ length (listing_of bytes) = p.place ∙ zero-add _ ∙ ap length e in
       let laid : area' ≡ sets area 0 (listing_of bytes) = p.area ∙ ap (sets area 0) e in
-      (λ i. record { answer = record { refusal = 0; length = long i }; area = laid i }) ∙ sym (ite-false _ _ (le-ltb _ _ h))
+      (λ i. record { answer = Ok (long i); area = laid i }) ∙ sym (ite-false _ _ (le-ltb _ _ h))
 
   -- ---- exactly when
 
   data Seen : Type 0 where
-    too_short : length area < longest → listing bytes area ≡ record { answer = record { refusal = 3; length = 0 }; area = area } → Seen
+    too_short : length area < longest → listing bytes area ≡ record { answer = Err AreaTooShort; area = area } → Seen
     taken :
         longest ≤ length area →
-        listing bytes area ≡ record { answer = record { refusal = 0; length = length (listing_of bytes) }; area = sets area 0 (listing_of bytes) } → Seen
+        listing bytes area ≡ record { answer = Ok (length (listing_of bytes)); area = sets area 0 (listing_of bytes) } → Seen
 
   seen : Seen
   unfolding listing
@@ -55,24 +58,24 @@ module _ (bytes area : List ℕ) where
       by true e = too_short (ltb-true _ _ e) (ite-true _ _ e)
       by false e = taken (ltb-false _ _ e) (ite-false _ _ e)
 
-  refusal : {o : Outcome} → listing bytes area ≡ o → (listing bytes area).answer.refusal ≡ o.answer.refusal
-  refusal e = ap (λ (o : Outcome). o.answer.refusal) e
+  refusal : {o : Outcome} → listing bytes area ≡ o → code (listing bytes area).answer ≡ code o.answer
+  refusal e = ap (λ (o : Outcome). code o.answer) e
 
-  pub refused-3-iff : ((listing bytes area).answer.refusal ≡ 3) ↔ (length area < longest)
+  pub refused-3-iff : (code (listing bytes area).answer ≡ 3) ↔ (length area < longest)
   refused-3-iff = (λ e. by e seen, λ h. refusal (sym (short h)))
     where
-      by : (listing bytes area).answer.refusal ≡ 3 → Seen → length area < longest
+      by : code (listing bytes area).answer ≡ 3 → Seen → length area < longest
       by e (too_short h _) = h
       by e (taken h q) = absurd (omega (arith, refusal q))
 
-  pub accepted-iff : ((listing bytes area).answer.refusal ≡ 0) ↔ (longest ≤ length area)
+  pub accepted-iff : (code (listing bytes area).answer ≡ 0) ↔ (longest ≤ length area)
   accepted-iff = (λ e. by e seen, λ h. back h seen)
     where
-      by : (listing bytes area).answer.refusal ≡ 0 → Seen → longest ≤ length area
+      by : code (listing bytes area).answer ≡ 0 → Seen → longest ≤ length area
       by e (too_short h q) = absurd (omega (arith, refusal q))
       by e (taken h _) = h
 
-      back : longest ≤ length area → Seen → (listing bytes area).answer.refusal ≡ 0
+      back : longest ≤ length area → Seen → code (listing bytes area).answer ≡ 0
       back h (too_short g _) = absurd (omega arith)
       back h (taken g q) = refusal q
 
@@ -82,14 +85,14 @@ module _ (bytes area : List ℕ) where
 
   -- what the call promises: then the area begins with the whole listing, and is as it was behind it
   pub listing-front :
-      {answer : Listed} {area' : List ℕ} → record { answer = answer; area = area' } ≡ listing bytes area → answer.length ≤ length area → answer.refusal ≡ 0 →
-      area' ≡ listing_of bytes ++ drop answer.length area
+      {answer : Result ℕ Refusal} {area' : List ℕ} → record { answer = answer; area = area' } ≡ listing bytes area → counted answer ≤ length area →
+      code answer ≡ 0 → area' ≡ listing_of bytes ++ drop (counted answer) area
   listing-front {answer} {area'} e within ok = by seen
     where
-      by : Seen → area' ≡ listing_of bytes ++ drop answer.length area
-      by (too_short h q) = absurd (omega (arith, ap (λ (o : Outcome). o.answer.refusal) (e ∙ q)))
+      by : Seen → area' ≡ listing_of bytes ++ drop (counted answer) area
+      by (too_short h q) = absurd (omega (arith, ok, ap (λ (o : Outcome). code o.answer) (e ∙ q)))
       by (taken h q) =
-          let long : answer.length ≡ length (listing_of bytes) = ap (λ (o : Outcome). o.answer.length) (e ∙ q) in
+          let long : counted answer ≡ length (listing_of bytes) = ap (λ (o : Outcome). counted o.answer) (e ∙ q) in
           ap (λ (o : Outcome). o.area) (e ∙ q)
-          ∙ sets-eq (listing_of bytes) area 0 (omega arith)
+          ∙ sets-eq (listing_of bytes) area 0 (omega (arith, long, within))
           ∙ ap (λ (n : ℕ). listing_of bytes ++ drop n area) (zero-add _ ∙ sym long)

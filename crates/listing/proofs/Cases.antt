@@ -2,10 +2,10 @@
 -- Assumes nothing.
 use mathlib.Core.{List.{List, [], ◌∷◌, ◌++◌, map}, Path.{◌≡◌, refl}}
 use Prim.Native.Nat.{ℕ}
-use Rattle.basics.specs.{Below.{one_if, all_below, count_below, list_below}, Choice.{ite, both}, Refusal.first_of}
+use Rattle.basics.specs.{Below.{one_if, all_below, count_below, list_below}, Choice.{ite, both, some_or}, Refusal.{met, unless}}
 use Rattle.codec.specs.{Items.{total, size_of, numbers_at, item_at}, Numbers.number_at}
-use Rattle.schedule.specs.Records.{singles, carries, row, records, single, value_behind, record_of, refusing, answered, reading}
-use Rattle.text.specs.Text.{first_line, dec, panel_text, result_text, fields, spaced, line_text}
+use Rattle.schedule.specs.Records.{singles, carries, row, records, single, value_behind, record_of, refusal_of, refusing, answered, reading}
+use Rattle.text.specs.Text.{first_line, dec, first_panel, second_panel, panel_text, result_text, fields, spaced, line_text}
 use Rattle.text.specs.Text as text
 use Rattle.messages.specs.Sends.{cast_below, cast_of, proceeds_to, messages_of, no_cast, no_sends}
 use Rattle.tables.specs.{Form.{entry_ok, line_ok, hold_ok, quiet_ok, unknown_ok, history_ok}, Lines.{leaving, without}}
@@ -15,11 +15,11 @@ use Rattle.form.specs.Form.{fits, is_panel, at_writer, operation_ok, in_form, em
 use Rattle.form.specs.Form as form
 use Rattle.unused.specs.Unused.{entry_zero, value_zero, line_unused, history_unused, place_unused, idle, unused}
 use Rattle.unused.specs.Unused as zero
-use Rattle.refusals.specs.Refusals.{is_peer, is_idle, right_bit, too_high, stray, line_full, first_trials, peer_trials, write_from_trials, read_from_trials, proceed_from_trials, trials, refusal}
+use Rattle.refusals.specs.Refusals.{is_peer, right_bit, too_high, stray, line_full, first_trials, peer_trials, write_from_trials, read_from_trials, proceed_from_trials, trials}
 use Rattle.refusals.specs.Refusals as panels
 use Rattle.events.specs.{Asked.sn_of, Events.{rule, refused_by, looked_at, happens}, Look.{look_writing, look_second, look_first, look_as, look}}
 use Rattle.events.specs.Rules.{value_of, learned, spread, write_rule, read_rule, reached, take, take_held, released, take_rule, hold_rule, read_from_rule, proceed_rule}
-use Rattle.panel.specs.Calls.{next_of, after, nothing, made}
+use Rattle.panel.specs.Calls.{next_of, after, nothing, made, set_up_trials}
 use Rattle.channels.specs.Channels.{by_kind, in_flight, has, value_in, room, less, slot_ok, channel_ok, channel_empty, leads, row_place_ok, row_ok, empty_row}
 use Rattle.channels.specs.Posting.{with_channel, fits_in, post, posts, posted_all, taken}
 use Rattle.channels.specs.Channels as channels
@@ -31,25 +31,25 @@ use Rattle.house.specs.NetForm as house
 use Rattle.steps.specs.{Drain.{next_in, drain_by, drain_in, drained}, Numbers.load_of, SetUp.{fresh_network, set_up}}
 use Rattle.steps.specs.Steps.{tried, is_pair, deliver_trials, lose_trials, settled, comes, write_in, read_in, deliver_in, lose_in, checked}
 use Rattle.steps.specs.Steps as steps
-use Rattle.listing.specs.Entries.{shown_by, tag_of, number_of, entry, unread, told, delivery_of, next_step, deliveries_by, drain_entries, stepped, entries, next, later, first, all}
-use Rattle.listing.specs.{Listing.{text_from, whole_text, listing_of}, Reads.{reads_from, reads_of}}
+use Rattle.listing.specs.Entries.{panels_of, noted, entry, unread, told, delivery_of, next_step, deliveries_by, drain_entries_as, stepped, entries, next, later, first_set_up, first, all}
+use Rattle.listing.specs.{Listing.{text_from, whole_text, listing_of}, Reads.{if_taken, reads_from, reads_of}}
 
 -- the listing, computed
 shows : List ℕ → List ℕ
 unfolding
-    ite both one_if all_below count_below list_below first_of number_at total size_of numbers_at item_at singles carries row records single value_behind
-    record_of refusing answered reading first_line text.leading dec panel_text result_text fields spaced line_text cast_below cast_of proceeds_to
+    ite both one_if all_below count_below list_below some_or met unless number_at total size_of numbers_at item_at singles carries row records single value_behind
+    record_of refusal_of refusing answered reading first_line text.leading dec first_panel second_panel panel_text result_text fields spaced line_text cast_below cast_of proceeds_to
     messages_of no_cast no_sends entry_ok line_ok hold_ok quiet_ok unknown_ok history_ok lines.joined lines.leading leaving without has_w reaches_w has_r
     is_other among marks only_place enough fits is_panel at_writer form.place_with form.place_ok operation_ok in_form empty_line fresh entry_zero
-    value_zero line_unused history_unused zero.place_with place_unused idle unused is_peer is_idle right_bit too_high stray line_full first_trials
-    peer_trials panels.write_trials panels.read_trials write_from_trials read_from_trials proceed_from_trials trials refusal sn_of value_of learned spread
+    value_zero line_unused history_unused zero.place_with place_unused idle unused is_peer right_bit too_high stray line_full first_trials
+    peer_trials panels.write_trials panels.read_trials write_from_trials read_from_trials proceed_from_trials trials sn_of value_of learned spread
     write_rule read_rule reached take take_held released take_rule hold_rule read_from_rule proceed_rule look_writing look_second look_first look_as look
-    rule refused_by looked_at happens next_of after nothing made by_kind in_flight has value_in room channels.joined less slot_ok channel_ok
+    rule refused_by looked_at happens next_of after nothing made set_up_trials by_kind in_flight has value_in room channels.joined less slot_ok channel_ok
     channel_empty leads row_place_ok row_ok empty_row with_channel fits_in post posts posted_all taken sum_below panel_load out_load load view_of code_of
     may_be_down downs_in member_with house.place_ok channels_ok net_form live first_below spot_at of_pair of_sender first_in tried is_pair steps.write_trials
     steps.read_trials deliver_trials lose_trials settled comes write_in read_in deliver_in lose_in checked load_of next_in drain_by drain_in drained
-    fresh_network set_up reads_from reads_of shown_by tag_of number_of entry unread told delivery_of next_step deliveries_by drain_entries stepped entries
-    next later first all text_from whole_text listing_of
+    fresh_network set_up if_taken reads_from reads_of panels_of noted entry unread told delivery_of next_step deliveries_by drain_entries_as stepped entries
+    next later first_set_up first all text_from whole_text listing_of
 shows bytes = listing_of bytes
 
 -- `00 03 01 01 00 00 02 BC`, `01 00 00 02 8A`, `04 01 02`, `04 02 01`, `02 03`, `08`

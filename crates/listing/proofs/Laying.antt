@@ -1,11 +1,11 @@
 -- What is put into an area: bytes one behind the other, the first line, and a line of at most 34 bytes.
 -- Assumes nothing.
 use mathlib.Core.{List.{List, [], ◌∷◌}, Path.{◌≡◌, sym, ap, subst, ◌∙◌}}
-use Prim.Native.Nat.{ℕ, ◌+◌, ◌^◌, ◌≤◌, ◌<◌}
+use Prim.Native.Nat.{ℕ, ◌+◌, ◌≤◌, ◌<◌}
 use native.Mathlib.{Numerals.add-one, Omega.arith}
 use lib.{ListN.{length, get_or, set, take, length-take}, Seq.{sets, length-sets, take-suc, take_all}}
 use Rattle.basics.proofs.Lists.{sets-append}
-use Rattle.text.{proofs.Appending.{text-shows, text-places}, proofs.Lines.{ByteFields, line-most}, specs.Text.{first_line, line_text, text_of}}
+use Rattle.text.{proofs.Appending.{text-shows, text-places}, proofs.Decimal.length_most, specs.Text.{first_line, dec, line_text, text_of}}
 use Rattle.text.specs.declared.{Line.Line, Text.Text}
 use Rattle.listing.specs.{Listing.numbered_as, Putting.Put}
 
@@ -64,16 +64,11 @@ module _ (bs : List ℕ) {t : Text} (e : t ≡ text_of bs) (few : t.length ≤ 3
   pub text-count : t.length ≡ length (take t.length t.bytes)
   text-count = text-long ∙ ap length (sym text-bytes)
 
-line-short : (l : Line) (k : ℕ) → ByteFields l → l.number < 2 ^ 32 → k < 100000 → length (line_text (numbered_as k l)) ≤ 34
-line-short l k f h g =
-    line-most (numbered_as k l) 5 10 (record { kind = f.kind; a = f.a; b = f.b; answer = f.answer }) (omega arith) (omega arith) (omega arith) (omega arith)
-
 -- the bytes of a line's text are put: so is the line, of 34 bytes at most
 pub line-put :
     (l : Line) (step at : ℕ) {m : Line} {t : Text} {area area' : List ℕ} {k : ℕ} → m ≡ numbered_as step l → t ≡ text_of (line_text m) → t.length ≤ 39 →
-    Put area at (take t.length t.bytes) area' k → ByteFields l → l.number < 2 ^ 32 → step < 100000 →
+    t.length ≤ length (dec step) + 29 → Put area at (take t.length t.bytes) area' k → step < 100000 →
     Put area at (line_text (numbered_as step l)) area' k × (k ≤ at + 34)
-line-put l step at {area = area} {area' = area'} {k = k} e f few p fields number small =
+line-put l step at {area = area} {area' = area'} {k = k} e f few short p small =
     let is = text-bytes _ f few ∙ ap line_text e in
-    let q : Put area at (line_text (numbered_as step l)) area' k = subst (λ (bs : List ℕ). Put area at bs area' k) is p in
-    (q, omega (arith, q.place, line-short l step fields number small))
+    (subst (λ (bs : List ℕ). Put area at bs area' k) is p, omega (arith, p.place, text-count _ f few, short, length_most 5 step (omega arith) (omega arith)))

@@ -1,11 +1,10 @@
-pub mod Cases
 pub mod Reading
 pub mod Placing
-pub mod Counting
 pub mod Giving
-pub mod Laying
-pub mod LineByLine
-pub mod Turns
 pub mod Turned
+pub mod Counting
+pub mod LineByLine
+pub mod Laying
 pub mod Answering
+pub mod Cases
 pub mod Outcomes

@@ -1,56 +1,69 @@
 -- The lines laid into the area one by one: what is laid and what is left is always the whole, and the numbers stay small.
 -- Assumes nothing.
-use mathlib.Core.{Bool.{true, false}, List.{List, [], ◌∷◌, ◌++◌}, Path.{◌≡◌, refl, sym, ap, ap₂, subst, ◌∙◌}}
+use mathlib.Core.{List.{List, [], ◌∷◌, ◌++◌}, Path.{◌≡◌, refl, sym, ap, ap₂, subst, ◌∙◌}}
 use Prim.Native.Nat.{ℕ, suc, ◌+◌, ◌*◌, ◌≤◌, ◌<◌}
 use native.Mathlib.{Numerals.add-one, Omega.arith}
-use lib.{Dec.ltb, ListN.{length, length-append}, Seq.sets}
-use Rattle.basics.proofs.{Choices.{ite-true, ite-false, ite-case}, Lists.sets-append}
+use lib.{ListN.{length, length-append}, Seq.sets}
+use Rattle.std.specs.Prelude.{Option, Result, Ok, Err, Some, None}
+use Rattle.basics.{proofs.Choices.{ite-case, some_or-none, some_or-some}, proofs.Lists.sets-append, specs.Choice.some_or, specs.declared.refused.Refusal.Refusal}
+use Rattle.schedule.specs.{Records.reading, declared.Taken.Taken}
 use Rattle.text.specs.{Text.{first_line, line_text}, declared.Line.Line}
+use Rattle.house.specs.declared.{InFlight.InFlight, Network.Network}
 use Rattle.steps.specs.Search.{sought}
 use Rattle.runs.proofs.Holding.{Holds}
 use Rattle.listing.specs.{Entries.all, Listing.{numbered_as, text_from, whole_text, longest}}
-use Rattle.listing.specs.{Machine.{Bench, drain_step, drain_line, record_line, next_line, first_record, opened}, Putting.Put}
-use Rattle.listing.specs.Reads.{reads_of}
-use Rattle.listing.proofs.{Counting.lines-most, Giving.{behind, left, Gives, next-gives, opened-gives}}
+use Rattle.listing.specs.{Machine.{Bench, found_in, drain_step, drain_line, taken_line, record_line, line_ahead, next_line, first_made, first_record, opened}, Putting.Put}
+use Rattle.listing.specs.{Reads.reads_of, Turning.count_of, declared.Ahead.Ahead}
+use Rattle.listing.specs.declared.Ahead.TheVariants as ahead
+use Rattle.listing.proofs.{Counting.lines-most, Giving.{Going, behind, left, Gives, next-gives, opened-gives}, Reading.Reading}
 
 -- how many deliveries are listed grows by one at most
-counted_next : (bytes : List ℕ) (b : Bench) → (next_line bytes b).count ≤ b.count + 1
-unfolding next_line record_line drain_line drain_step
-counted_next bytes b =
-    ite-case Few b.ended _ _ (λ _. omega arith)
-    (λ _. ite-case Few b.draining _ _ (λ _. drain-line b.at b.count (omega arith))
-    (λ _. ite-case Few (ltb b.at (length bytes)) _ _
-    (λ _. ite-case Few _ _ _
-    (λ _. ite-case Few _ _ _ (λ _. omega arith) (λ _. ite-case Few _ _ _ (λ _. drain-line _ 0 (omega arith)) (λ _. omega arith)))
-    (λ _. omega arith))
-    (λ _. omega arith)))
-  where
-    Few : Bench → Type 0
-    Few c = c.count ≤ b.count + 1
+module _ (s : Network) (n : ℕ) where
+  abbrev Few : Bench → Type 0
+  Few c = count_of c.ahead ≤ n + 1
 
-    drain-line : (at m : ℕ) → m ≤ b.count → Few (drain_line b.network at m)
-    drain-line at m h = ite-case Few (sought b.network).found.any _ _ (λ _. omega arith) (λ _. omega arith)
+  drain-few : (at m : ℕ) → m ≤ n → Few (drain_line s at m)
+  unfolding drain_line drain_step some_or
+  drain-few at m h = by (found_in (sought s))
+    where
+      by : (o : Option InFlight) → Few (drain_step s o at m)
+      by None = omega arith
+      by (Some x) = omega arith
 
-counted-first : (bytes : List ℕ) → (opened bytes).count ≡ 0
-unfolding opened first_record
-counted-first bytes =
-    ite-case None _ _ _
-    (λ _. ite-case None _ _ _
-    (λ _. ite-case None _ _ _ (λ _. ite-case None _ _ _ (λ _. refl) (λ _. refl)) (λ _. refl))
-    (λ _. refl))
-    (λ _. refl)
+  read-few : (q : Reading) (at : ℕ) → Few (record_line s q at)
+  unfolding record_line taken_line
+  read-few (Err u) at = omega arith
+  read-few (Ok t) at = ite-case Few _ _ _ (λ _. omega arith) (λ _. ite-case Few _ _ _ (λ _. drain-few _ 0 (omega arith)) (λ _. omega arith))
+
+counted_ahead : (bytes : List ℕ) (s : Network) (a : Ahead) → count_of (line_ahead bytes s a).ahead ≤ count_of a + 1
+unfolding line_ahead
+counted_ahead bytes s ahead.Ended = omega arith
+counted_ahead bytes s (ahead.Drain at count) = drain-few s count at count (omega arith)
+counted_ahead bytes s (ahead.Record at) = ite-case (Few s 0) _ _ _ (λ _. read-few s 0 (reading bytes at) at) (λ _. omega arith)
+
+counted-first : (bytes : List ℕ) → count_of (opened bytes).ahead ≡ 0
+unfolding opened first_record first_made
+counted-first bytes = ite-case NoneYet _ _ _ (λ _. by (reading bytes 0)) (λ _. refl)
   where
-    None : Bench → Type 0
-    None c = c.count ≡ 0
+    NoneYet : Bench → Type 0
+    NoneYet c = count_of c.ahead ≡ 0
+
+    made : (t : Taken) (m : Result Network Refusal) → NoneYet (first_made t m)
+    made t (Ok s) = refl
+    made t (Err r) = refl
+
+    by : (q : Reading) → NoneYet (first_record q)
+    by (Ok t) = ite-case NoneYet _ _ _ (λ _. made t _) (λ _. refl)
+    by (Err u) = refl
 
 -- the lines of `bytes` come about, behind the first line in the area l: l' holds those before b's line, which is laid at `at` with number step
 pub record Lays (bytes l l' : List ℕ) (at step : ℕ) (b : Bench) : Type 0 where
-  pub holds : b.ended ≡ false → Holds b.network
+  pub holds : Going b.ahead → Holds b.network
   pub laid : sets l' at (text_from step (left bytes b)) ≡ sets l 28 (text_from 1 (all (reads_of bytes)))
   pub long : at + length (text_from step (left bytes b)) ≡ 28 + length (text_from 1 (all (reads_of bytes)))
   pub lines : step + length (left bytes b) ≡ suc (length (all (reads_of bytes)))
   pub most : at + 34 ≤ 28 + 34 * step
-  pub few : b.count < step
+  pub few : count_of b.ahead < step
 
 module _ (bytes l : List ℕ) where
   at_first : Lays bytes l l 28 1 (opened bytes)
@@ -76,17 +89,17 @@ module _ (bytes l : List ℕ) where
     pub at-few : length bytes ≤ 65536 → at ≤ longest
     at-few h = omega (arith, d.most, step-few h)
 
-    abbrev line_bytes : List ℕ
-    line_bytes = line_text (numbered_as step b.line)
-
     -- one line more
-    module _ (any : b.any ≡ true) where
+    module _ (line : Line) (there : b.line ≡ Some line) where
+      abbrev line_bytes : List ℕ
+      line_bytes = line_text (numbered_as step line)
+
       gives : Gives bytes (behind bytes b) (next_line bytes b)
       gives = next-gives bytes b d.holds
 
-      now : left bytes b ≡ b.line ∷ left bytes (next_line bytes b)
+      now : left bytes b ≡ line ∷ left bytes (next_line bytes b)
       unfolding left
-      now = ite-true _ _ any ∙ ap (λ (ls : List Line). b.line ∷ ls) (sym gives.is)
+      now = some_or-some _ _ there ∙ ap (λ (ls : List Line). line ∷ ls) (sym gives.is)
 
       abbrev more : List ℕ
       more = text_from (step + 1) (left bytes (next_line bytes b))
@@ -104,11 +117,11 @@ module _ (bytes l : List ℕ) where
             long = omega (arith, p.place, length-append line_bytes more, ap (λ (t : List ℕ). length t) text, d.long);
             lines = omega (arith, d.lines, ap (λ (ls : List Line). length ls) now);
             most = omega (arith, most, d.most);
-            few = omega (arith, counted_next bytes b, d.few);
+            few = omega (arith, counted_ahead bytes b.network b.ahead, d.few);
           }
 
       pub lays-next :
-          {m : List ℕ} {k : ℕ} {b' : Bench} → Put l' at (line_text (numbered_as step b.line)) m k × (k ≤ at + 34) → b' ≡ next_line bytes b →
+          {m : List ℕ} {k : ℕ} {b' : Bench} → Put l' at (line_text (numbered_as step line)) m k × (k ≤ at + 34) → b' ≡ next_line bytes b →
           Lays bytes l m k (step + 1) b'
       lays-next {m} {k} p f = subst (Lays bytes l m k (step + 1)) (sym f) (on p.0 p.1)
 
@@ -116,10 +129,10 @@ module _ (bytes l : List ℕ) where
       fewer-left f = omega (arith, ap (λ (x : Bench). length (left bytes x)) f, ap (λ (ls : List Line). length ls) now)
 
     -- no line is left: all of it is laid
-    module _ (none : b.any ≡ false) where
+    module _ (none : b.line ≡ None) where
       nothing_left : text_from step (left bytes b) ≡ []
       unfolding left text_from
-      nothing_left = ap (text_from step) (ite-false _ _ none)
+      nothing_left = ap (text_from step) (some_or-none _ _ none)
 
       pub lays_all : {area : List ℕ} → l ≡ sets area 0 first_line → Put area 0 (whole_text bytes) l' at
       unfolding whole_text first_line

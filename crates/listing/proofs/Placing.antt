@@ -6,6 +6,7 @@ use Prim.Native.Nat.{ℕ, ◌-◌, ◌≤◌}
 use native.Mathlib.{Decide.ℕ_discrete, Omega.arith}
 use lib.Dec.{eqb}
 use borrow.Author.Tests.{eq-eqb, ne_eqb}
+use Rattle.std.specs.Prelude.{Ok}
 use Rattle.basics.proofs.Choices.{ite-true, ite-false, ite-case}
 use Rattle.schedule.specs.declared.Record.{Record}
 use Rattle.protocol.specs.Counts.{made}
@@ -14,12 +15,12 @@ use Rattle.steps.{proofs.AtStart.{set-up-network, set-up-fits}, specs.Drain.drai
 use Rattle.steps.specs.{Steps.delivered, declared.Stepped.Stepped}
 use Rattle.runs.{proofs.FromFresh.start-holds, proofs.Holding.{Holds, Went}, proofs.Running.step-fares, specs.Runs.{Step, did, does}}
 use Rattle.runs.specs.Runs.Step.{write, read, deliver, lose}
-use Rattle.listing.specs.Entries.{entry, told, drain_entries, stepped, entries, next}
+use Rattle.listing.specs.Entries.{misplaced, told, drain_entries, stepped, entries, next}
 
 -- ---- its lines
 
 pub data Placed (s : Network) (r : Record) : Type 0 where
-  setting_up : r.kind ≡ 0 → entries s r ≡ entry r 17 0 0 ∷ [] → next s r ≡ s → Placed s r
+  setting_up : r.kind ≡ 0 → entries s r ≡ misplaced r ∷ [] → next s r ≡ s → Placed s r
   drains : r.kind ≢ 0 → r.kind ≡ 8 → entries s r ≡ drain_entries s → next s r ≡ (drained s).network → Placed s r
   steps : r.kind ≢ 0 → r.kind ≢ 8 → entries s r ≡ told r (stepped s r).answer ∷ [] → next s r ≡ (stepped s r).network → Placed s r
 
@@ -70,5 +71,5 @@ module _ (s : Network) (h : Holds s) where
   delivered-keeps k i j = does-keeps (deliver k i j)
 
 -- what set-up makes, where it is not refused
-pub set-up-holds : (n t writer v : ℕ) → (set_up n t writer v).refusal ≡ 0 → Holds (set_up n t writer v).network
-set-up-holds n t writer v z = subst Holds (sym (set-up-network n t writer v)) (start-holds n t writer v (set-up-fits n t writer v z))
+pub set-up-holds : (n t writer v : ℕ) (s : Network) → set_up n t writer v ≡ Ok s → Holds s
+set-up-holds n t writer v s z = subst Holds (sym (set-up-network n t writer v s z)) (start-holds n t writer v (set-up-fits n t writer v s z))

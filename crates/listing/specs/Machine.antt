@@ -1,88 +1,88 @@
 -- The bench gives one line at a time: that of the next record, or, while it drains, that of the next delivery and at last the drain's
 -- own. What it gives one after the other is the listing's lines (proofs/Giving).
 -- Assumes nothing.
-use Rattle.std.specs.Prelude.{ℕ, ◌+◌}
-use mathlib.Core.{Bool.{Bool, true, false}, List.List}
-use lib.{Dec.{ltb, eqb}, ListN.length}
-use Rattle.basics.specs.Choice.{ite}
-use Rattle.schedule.specs.{Records.reading, declared.Read.Read}
+use Rattle.std.specs.Prelude.{ℕ, ◌+◌, List, length, ltb, eqb, Option, Result, Ok, Err, Some, None}
+use Rattle.basics.specs.{Choice.{ite, some_or}, Refusal.number_of, declared.refused.Refusal.Refusal}
+use Rattle.schedule.specs.{Records.reading, declared.Record.Record, declared.Taken.Taken, declared.Unread.Unread}
 use Rattle.text.specs.declared.Line.{Line}
-use Rattle.house.specs.declared.{Found.Found, Network.Network}
-use Rattle.steps.specs.{Search.sought, SetUp.set_up, Steps.delivered, declared.Ready.Ready, declared.Stepped.Stepped}
-use Rattle.listing.specs.Entries.{entry, unread, told, delivery_of, drain, stepped}
+use Rattle.house.specs.declared.{InFlight.InFlight, Network.Network}
+use Rattle.steps.specs.{Search.sought, SetUp.{no_network, set_up}}
+use Rattle.listing.specs.Entries.{entry, misplaced, unread, told, delivery_of, next_step, drain_entry, stepped}
+use Rattle.listing.specs.declared.Ahead.{Ahead}
+use Rattle.listing.specs.declared.Ahead.TheVariants as ahead
 
--- the bench has given a line, if there was one. It reads on at `at`, unless it has ended; while it drains, count is how many deliveries
--- it has listed
+-- the bench has given a line, if there was one, and reads on ahead
 pub record Bench : Type 0 where
   pub network : Network
-  pub any : Bool
-  pub line : Line
-  pub ended : Bool
-  pub draining : Bool
-  pub at : ℕ
-  pub count : ℕ
-
-abbrev pub no_line : Line
-no_line = record { step = 0; kind = 0; shown = 0; a = 0; b = 0; answer = 0; tag = 0; number = 0 }
+  pub line : Option Line
+  pub ahead : Ahead
 
 -- no line any more
 abbrev pub silent : Network → Bench
-silent s = record { network = s; any = false; line = no_line; ended = true; draining = false; at = 0; count = 0 }
+silent s = record { network = s; line = None; ahead = ahead.Ended }
 
 -- a last line
 abbrev pub stops : Network → Line → Bench
-stops s l = record { network = s; any = true; line = l; ended = true; draining = false; at = 0; count = 0 }
+stops s l = record { network = s; line = Some l; ahead = ahead.Ended }
 
 -- a line, and then the record at place at
 abbrev pub goes_on : Network → Line → ℕ → Bench
-goes_on s l at = record { network = s; any = true; line = l; ended = false; draining = false; at = at; count = 0 }
+goes_on s l at = record { network = s; line = Some l; ahead = ahead.Record at }
 
 -- a line in a drain: so many deliveries so far
 abbrev pub drains : Network → Line → ℕ → ℕ → Bench
-drains s l at count = record { network = s; any = true; line = l; ended = false; draining = true; at = at; count = count }
+drains s l at count = record { network = s; line = Some l; ahead = ahead.Drain at count }
 
--- the line of a drain that has found f
-unfoldable pub drain_step : Network → Found → ℕ → ℕ → Bench
-drain_step s f at count =
-    let o : Stepped = delivered s f.kind f.sender f.receiver in
-    ite f.any
-    (drains o.network (told (delivery_of f.kind f.sender f.receiver) o.answer) at (count + 1))
-    (goes_on s (entry drain 0 100 count) at)
+-- ---- a drain
+
+-- what a search that is not refused has found
+abbrev pub found_in : Result (Option InFlight) Refusal → Option InFlight
+found_in (Ok o) = o
+found_in (Err r) = None
+
+-- the line of a drain that has found o
+unfoldable pub drain_step : Network → Option InFlight → ℕ → ℕ → Bench
+drain_step s o at count =
+    some_or o
+    (λ (x : InFlight). drains (next_step s x).network (told (delivery_of x) (next_step s x).answer) at (count + 1))
+    (goes_on s (drain_entry count) at)
 
 unfoldable pub drain_line : Network → ℕ → ℕ → Bench
-drain_line s at count = drain_step s (sought s).found at count
+drain_line s at count = drain_step s (found_in (sought s)) at count
 
--- the line of a record after the set-up, and for a drain its first line; the next record stands at place at
-unfoldable pub record_line : Network → Read → ℕ → Bench
-record_line s q at =
-    ite (eqb q.refusal 0)
-    (ite (eqb q.«record».kind 0) (goes_on s (entry q.«record» 17 0 0) at)
-    (ite (eqb q.«record».kind 8) (drain_line s at 0)
-    (goes_on (stepped s q.«record»).network (told q.«record» (stepped s q.«record»).answer) at)))
-    (stops s (unread q))
+-- ---- the next line
 
-unfoldable pub next_line : List ℕ → Bench → Bench
-next_line bytes b =
-    ite b.ended (silent b.network)
-    (ite b.draining (drain_line b.network b.at b.count)
-    (ite (ltb b.at (length bytes))
-    (record_line b.network (reading bytes b.at) (b.at + (reading bytes b.at).used))
-    (silent b.network)))
+-- of a record after the set-up, and for a drain its first line; the next record stands at place at
+unfoldable pub taken_line : Network → Record → ℕ → Bench
+taken_line s r at =
+    ite (eqb r.kind 0) (goes_on s (misplaced r) at)
+    (ite (eqb r.kind 8) (drain_line s at 0) (goes_on (stepped s r).network (told r (stepped s r).answer) at))
 
--- the line of the first record, and what its set-up makes
-unfoldable pub first_record : Read → Ready → Bench
-first_record q made =
-    ite (eqb q.refusal 0)
-    (ite (eqb q.«record».kind 0)
-    (ite (eqb made.refusal 0)
-    (goes_on made.network (entry q.«record» 0 0 0) q.used)
-    (stops made.network (entry q.«record» made.refusal 0 0)))
-    (stops made.network (entry q.«record» 17 0 0)))
-    (stops made.network (unread q))
+-- of what was read at place at
+unfoldable pub record_line : Network → Result Taken Unread → ℕ → Bench
+record_line s (Ok t) at = taken_line s t.«record» (at + t.used)
+record_line s (Err u) at = stops s (unread u)
 
-abbrev pub made_by : Read → Ready
-made_by q = set_up q.«record».a q.«record».b q.«record».c q.«record».value
+unfoldable pub line_ahead : List ℕ → Network → Ahead → Bench
+line_ahead bytes s ahead.Ended = silent s
+line_ahead bytes s (ahead.Record at) = ite (ltb at (length bytes)) (record_line s (reading bytes at) at) (silent s)
+line_ahead bytes s (ahead.Drain at count) = drain_line s at count
+
+abbrev pub next_line : List ℕ → Bench → Bench
+next_line bytes b = line_ahead bytes b.network b.ahead
+
+-- ---- the line of the first record, and what its set-up makes
+
+unfoldable pub first_made : Taken → Result Network Refusal → Bench
+first_made t (Ok s) = goes_on s (entry t.«record» 0 None) t.used
+first_made t (Err r) = stops no_network (entry t.«record» (number_of r) None)
+
+unfoldable pub first_record : Result Taken Unread → Bench
+first_record (Ok t) =
+    ite (eqb t.«record».kind 0)
+    (first_made t (set_up t.«record».a t.«record».b t.«record».c t.«record».value))
+    (stops no_network (misplaced t.«record»))
+first_record (Err u) = stops no_network (unread u)
 
 unfoldable pub opened : List ℕ → Bench
-opened bytes =
-    ite (ltb 0 (length bytes)) (first_record (reading bytes 0) (made_by (reading bytes 0))) (silent (made_by (reading bytes 0)).network)
+opened bytes = ite (ltb 0 (length bytes)) (first_record (reading bytes 0)) (silent no_network)

@@ -5,40 +5,38 @@ mod records;
 
 ghost use Rattle.std.specs.Prelude.{◌≡◌, ◌+◌, ◌^◌, ◌≤◌, ◌<◌, length};
 ghost use Rattle.text.specs.Text.{line_text};
+ghost use Rattle.steps.specs.Drain.{counted};
 ghost use Rattle.listing.specs.Listing.{numbered_as, whole_text, longest, listing};
 ghost use Rattle.listing.specs.Putting.{Put};
 
+use basics::Refusal;
 use house::Network;
 use parts::{Parts, Step};
 use records::{after_turn, next_turn, opened};
 use schedule::Record;
 use text::Line;
 
-// What the call answers: 0 and how many bytes it wrote, or the number of a refusal.
+// Where the bench reads on: nowhere any more; at the record at a place; or in a drain that has listed so many deliveries, and then at
+// the record at a place.
 #[derive(Clone, Copy)]
-pub struct Listed {
-    pub refusal: u8,
-    pub length: usize,
+enum Ahead {
+    Ended,
+    Record(usize),
+    Drain { at: usize, count: u32 },
 }
 
-// The bench has given a line, if there was one. It reads on at `at`, unless it has ended; while it drains, count is how many
-// deliveries it has listed.
+// The bench has given a line, if there was one, and reads on ahead.
 #[derive(Clone, Copy)]
 struct Stand {
-    any: bool,
-    line: Line,
-    ended: bool,
-    draining: bool,
-    at: usize,
-    count: u32,
+    line: Option<Line>,
+    ahead: Ahead,
 }
 
-// What the bench does next: a step, or none; where it then stands; and whether its line tells the answer to `record`.
+// What the bench does next: a step; the record to which its line tells the answer, if it tells one; and where it then stands.
 #[derive(Clone, Copy)]
 struct Turn {
     step: Step,
-    tells: bool,
-    record: Record,
+    tells: Option<Record>,
     stand: Stand,
 }
 
@@ -55,37 +53,19 @@ fn put_all(out: &mut [u8], at: usize, bytes: &[u8]) -> usize
     requires { at + length bytes.now < 2 ^ 63 }
     ensures { Put out.old at bytes.now out.new result }
 {
-    let mut i = 0;
-    while i < bytes.len() {
-        codec::put_byte(out, at + i, bytes[i]);
-        i += 1;
+    for (i, b) in bytes.iter().enumerate() {
+        codec::put_byte(out, at + i, *b);
     }
-    at + i
-}
-
-fn numbered(step: u32, l: Line) -> Line
-    ensures { result ≡ numbered_as step l }
-{
-    Line {
-        step,
-        kind: l.kind,
-        shown: l.shown,
-        a: l.a,
-        b: l.b,
-        answer: l.answer,
-        tag: l.tag,
-        number: l.number,
-    }
+    at + bytes.len()
 }
 
 fn put_line(out: &mut [u8], at: usize, step: u32, l: Line) -> usize
     requires { (at < 2 ^ 62) × (step < 100000) }
     ensures { Put out.old at (line_text (numbered_as step l)) out.new result × (result ≤ at + 34) }
 {
-    let t = text::line_text(numbered(step, l));
+    let t = text::line_text(Line { step, ..l });
     let bytes = t.bytes;
-    let n = t.length;
-    put_all(out, at, &bytes[..n])
+    put_all(out, at, &bytes[..t.length])
 }
 
 // The lines of a schedule that is not too long.
@@ -102,40 +82,32 @@ fn put_lines(schedule: &[u8], out: &mut [u8]) -> usize
     let mut panels = s.panels;
     let mut rows = s.rows;
     let mut down = s.down;
-    while b.any {
-        let l = b.line;
+    while let Some(l) = b.line {
         at = put_line(out, at, step, l);
         step += 1;
-        let turn = next_turn(schedule, b, rows, down);
+        let turn = next_turn(schedule, b.ahead, rows, down);
         // the step, on the parts of the network that it touches; the network itself stays where it is
         let m = turn.step;
         let first = panels[0];
         let f = first.tables;
         let to = parts::actor(m, f.writer);
         let from = parts::sender(m, f.writer);
-        let actor = panels[to];
-        let sender = rows[from];
-        let own = rows[to];
         let x = Parts {
             n: f.n,
             t: f.t,
             writer: f.writer,
             down,
-            panel: actor,
-            from: sender,
-            own,
+            panel: panels[to],
+            from: rows[from],
+            own: rows[to],
         };
-        let a = parts::act(x, m);
-        let answer = a.answer;
-        let y = a.parts;
-        let actor = y.panel;
-        let sender = y.from;
-        let own = y.own;
-        panels[to] = actor;
-        rows[from] = sender;
-        rows[to] = own;
+        let moved = parts::act(x, m);
+        let y = moved.parts;
+        panels[to] = y.panel;
+        rows[from] = y.from;
+        rows[to] = y.own;
         down = y.down;
-        b = after_turn(turn, answer);
+        b = after_turn(turn, moved.answer);
     }
     at
 }
@@ -145,27 +117,15 @@ const LONGEST: usize = 2799452;
 // The most bytes that a schedule may have.
 const MOST: usize = 65536;
 
-pub fn listing(schedule: &[u8], out: &mut [u8]) -> Listed
+pub fn listing(schedule: &[u8], out: &mut [u8]) -> Result<usize, Refusal>
     ensures out_after { record { answer = result; area = out.new } ≡ listing schedule.now out.old }
-    ensures within { result.length ≤ length out.old }
+    ensures within { counted result ≤ length out.old }
 {
     if out.len() < LONGEST {
-        return Listed {
-            refusal: 3,
-            length: 0,
-        };
+        return Err(Refusal::AreaTooShort);
     }
     if MOST < schedule.len() {
-        let line = text::too_long();
-        let n = put_all(out, 0, &line);
-        return Listed {
-            refusal: 0,
-            length: n,
-        };
+        return Ok(put_all(out, 0, &text::too_long()));
     }
-    let n = put_lines(schedule, out);
-    Listed {
-        refusal: 0,
-        length: n,
-    }
+    Ok(put_lines(schedule, out))
 }

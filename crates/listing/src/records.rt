@@ -1,318 +1,270 @@
 // What each record comes to: the line that it gives, the step that it is, and where the bench then stands.
-ghost use Rattle.std.specs.Prelude.{◌≡◌, ◌≢◌, ◌<◌};
+ghost use Rattle.std.specs.Prelude.{◌≡◌, ◌≢◌, ◌<◌, Ok, Err};
 ghost use Rattle.house.specs.Search.{flying, first_in};
-ghost use Rattle.listing.specs.Entries.{shown_by, entry, unread, told, drain};
-ghost use Rattle.listing.specs.Machine.{no_line, first_record, opened};
-ghost use Rattle.listing.specs.Turning.{bench_at, no_more, last_line, onward, mid_drain, quiet, steps, step_of, drain_turn, record_turn, next_turn, after_turn};
+ghost use Rattle.steps.specs.SetUp.{no_network};
+ghost use Rattle.listing.specs.Entries.{panels_of, noted, entry, misplaced, unread, told, delivery_of, drain, drain_entry};
+ghost use Rattle.listing.specs.Machine.{first_record, opened};
+ghost use Rattle.listing.specs.declared.Ahead.TheVariants.{Ended};
+ghost use Rattle.listing.specs.Turning.{bench_at, count_of, quiet, steps, step_of, drain_turn, taken_turn, record_turn, next_turn, after_turn};
 
-use crate::{Stand, Start, Turn};
-use basics::both;
+use crate::{Ahead, Stand, Start, Turn};
+use basics::Refusal;
 use channels::Row;
-use events::Answer;
+use events::{Answer, Finished};
+use house::InFlight;
 use parts::Step;
-use schedule::{Read, Record};
-use steps::Ready;
-use tables::WriteNo;
-use text::Line;
+use schedule::{Record, Taken, Unread};
+use text::{Line, Noted, Panels};
 
 // ---- lines, without their step numbers
 
-// How many panel numbers a line of this kind shows.
-fn shown_by(kind: u8) -> u8
-    ensures { result ≡ shown_by kind }
+// The panel numbers that a record's line shows.
+#[tactic(auto, unfolding(crate::specs::Entries::panels_of, basics::specs::Choice::ite, basics::specs::Choice::both))]
+fn panels_of(r: Record) -> Panels
+    ensures { result ≡ panels_of r }
 {
-    if both(3 <= kind, kind <= 6) {
-        return 2;
+    match r.kind {
+        3..=6 => Panels::Two(r.a, r.b),
+        2 | 7 => Panels::One(r.a),
+        _ => Panels::Neither,
     }
-    if kind == 2 {
-        return 1;
-    }
-    if kind == 7 {
-        return 1;
-    }
-    0
 }
 
-fn entry(r: Record, answer: u8, tag: u8, number: u32) -> Line
-    ensures { result ≡ entry r answer tag number }
+#[tactic(auto, unfolding(crate::specs::Entries::entry, basics::specs::Choice::ite, basics::specs::Choice::both))]
+fn entry(r: Record, answer: u8, noted: Option<Noted>) -> Line
+    ensures { result ≡ entry r answer noted }
 {
     Line {
         step: 0,
         kind: r.kind,
-        shown: shown_by(r.kind),
-        a: r.a,
-        b: r.b,
+        panels: panels_of(r),
         answer,
-        tag,
-        number,
+        result: noted,
     }
 }
 
-fn unread(q: Read) -> Line
-    ensures { result ≡ unread q }
+fn misplaced(r: Record) -> Line
+    ensures { result ≡ misplaced r }
 {
-    let r = q.record;
+    entry(r, Refusal::SetUpMisplaced.number(), None)
+}
+
+#[tactic(auto, unfolding(crate::specs::Entries::unread, basics::specs::Choice::ite, basics::specs::Choice::both))]
+fn unread(u: Unread) -> Line
+    ensures { result ≡ unread u }
+{
     Line {
         step: 0,
-        kind: r.kind,
-        shown: 0,
-        a: 0,
-        b: 0,
-        answer: q.refusal,
-        tag: 0,
-        number: 0,
+        kind: u.kind,
+        panels: Panels::Neither,
+        answer: u.refusal.number(),
+        result: None,
     }
 }
 
-fn number_of(x: WriteNo) -> u32
-    ensures { result ≡ x.0 }
+// The letter and the number of what finished.
+#[tactic(auto, unfolding(crate::specs::Entries::noted, basics::specs::Choice::ite, basics::specs::Choice::both))]
+fn noted(a: Answer) -> Option<Noted>
+    ensures { result ≡ noted a }
 {
-    x.0 as u32
+    let (letter, number) = match a.ok()?? {
+        Finished::Wrote(x) => (b'w', u32::from(x.0)),
+        Finished::Gave(_, v) => (b'r', v),
+    };
+    Some(Noted { letter, number })
 }
 
+#[tactic(auto, unfolding(crate::specs::Entries::told, basics::specs::Choice::ite, basics::specs::Choice::both))]
 fn told(r: Record, a: Answer) -> Line
     ensures { result ≡ told r a }
 {
-    match a {
-        Answer::Refused(k) => entry(r, k, 0, 0),
-        Answer::Nothing => entry(r, 0, 0, 0),
-        Answer::Wrote(x) => entry(r, 0, b'w', number_of(x)),
-        Answer::Gave(_, v) => entry(r, 0, b'r', v),
-    }
-}
-
-// ---- where the bench stands
-
-fn no_line() -> Line
-    ensures { result ≡ no_line }
-{
-    Line {
-        step: 0,
-        kind: 0,
-        shown: 0,
-        a: 0,
-        b: 0,
-        answer: 0,
-        tag: 0,
-        number: 0,
-    }
-}
-
-fn no_more() -> Stand
-    ensures { result ≡ no_more }
-{
-    Stand {
-        any: false,
-        line: no_line(),
-        ended: true,
-        draining: false,
-        at: 0,
-        count: 0,
-    }
-}
-
-fn last_line(l: Line) -> Stand
-    ensures { result ≡ last_line l }
-{
-    Stand {
-        any: true,
-        line: l,
-        ended: true,
-        draining: false,
-        at: 0,
-        count: 0,
-    }
-}
-
-fn onward(l: Line, at: usize) -> Stand
-    ensures { result ≡ onward l at }
-{
-    Stand {
-        any: true,
-        line: l,
-        ended: false,
-        draining: false,
-        at,
-        count: 0,
-    }
-}
-
-fn mid_drain(l: Line, at: usize, count: u32) -> Stand
-    ensures { result ≡ mid_drain l at count }
-{
-    Stand {
-        any: true,
-        line: l,
-        ended: false,
-        draining: true,
-        at,
-        count,
-    }
+    entry(r, parts::code_of(a), noted(a))
 }
 
 // ---- turns
 
-fn the_drain() -> Record
-    ensures { result ≡ drain }
+const THE_DRAIN: Record = Record {
+    kind: 8,
+    a: 0,
+    b: 0,
+    c: 0,
+    value: 0,
+};
+
+// A drain's own line.
+fn drain_entry(count: u32) -> Line
+    ensures { result ≡ drain_entry count }
+{
+    let noted = Noted {
+        letter: b'd',
+        number: count,
+    };
+    entry(THE_DRAIN, 0, Some(noted))
+}
+
+// A delivery as a record.
+#[tactic(auto, unfolding(crate::specs::Entries::delivery_of, basics::specs::Choice::ite, basics::specs::Choice::both))]
+fn delivery_of(x: InFlight) -> Record
+    requires { x.kind < 4 }
+    ensures { result ≡ delivery_of x }
 {
     Record {
-        kind: 8,
-        a: 0,
-        b: 0,
+        kind: x.kind + 3,
+        a: x.sender,
+        b: x.receiver,
         c: 0,
         value: 0,
     }
 }
 
-// No step, and the line is known.
-fn quiet(b: Stand) -> Turn
-    ensures { result ≡ quiet b }
+// No step, and the line is known, if there is one.
+fn quiet(line: Option<Line>, ahead: Ahead) -> Turn
+    ensures { result ≡ quiet line ahead }
 {
     Turn {
-        step: Step {
-            what: 0,
-            kind: 0,
-            from: 0,
-            at: 0,
-            value: 0,
-        },
-        tells: false,
-        record: the_drain(),
-        stand: b,
+        step: Step::Rest,
+        tells: None,
+        stand: Stand { line, ahead },
     }
 }
 
-// A step, and the line tells its answer.
-fn steps(m: Step, r: Record, b: Stand) -> Turn
-    ensures { result ≡ steps m r b }
+// A step, and the line tells its answer to a record.
+fn steps(step: Step, r: Record, ahead: Ahead) -> Turn
+    ensures { result ≡ steps step r ahead }
 {
     Turn {
-        step: m,
-        tells: true,
-        record: r,
-        stand: b,
+        step,
+        tells: Some(r),
+        stand: Stand { line: None, ahead },
     }
 }
 
 // The step of a record other than set-up and drain.
+#[tactic(auto, unfolding(crate::specs::Turning::step_of, basics::specs::Choice::ite, basics::specs::Choice::both))]
 fn step_of(r: Record) -> Step
     requires { r.kind ≢ 0 }
     ensures { result ≡ step_of r }
 {
-    if r.kind == 1 {
-        return parts::step_at(1, 0, r.value);
+    match r.kind {
+        1 => Step::Write(r.value),
+        2 => Step::Read(r.a),
+        7 => Step::Lose(r.a),
+        _ => Step::Deliver {
+            kind: r.kind.saturating_sub(3),
+            from: r.a,
+            to: r.b,
+        },
     }
-    if r.kind == 2 {
-        return parts::step_at(2, r.a, 0);
-    }
-    if r.kind == 7 {
-        return parts::step_at(4, r.a, 0);
-    }
-    parts::delivery(r.kind - 3, r.a, r.b)
 }
 
 // The next delivery of a drain, or its own line.
+#[tactic(auto, unfolding(crate::specs::Turning::drain_turn, basics::specs::Choice::some_or, basics::specs::Choice::ite, basics::specs::Choice::both))]
 fn drain_turn(rows: [Row; 7], down: [bool; 7], at: usize, count: u32) -> Turn
     requires { count < 100000 }
     ensures { result ≡ drain_turn (first_in (flying rows down)) at count }
 {
-    let f = house::first_in_flight(rows, down);
-    if !f.any {
-        let own = entry(the_drain(), 0, b'd', count);
-        return quiet(onward(own, at));
+    match house::first_in_flight(rows, down) {
+        None => quiet(Some(drain_entry(count)), Ahead::Record(at)),
+        Some(x) => {
+            let delivery = Step::Deliver {
+                kind: x.kind,
+                from: x.sender,
+                to: x.receiver,
+            };
+            let count = count + 1;
+            steps(delivery, delivery_of(x), Ahead::Drain { at, count })
+        }
     }
-    let r = Record {
-        kind: f.kind + 3,
-        a: f.sender,
-        b: f.receiver,
-        c: 0,
-        value: 0,
-    };
-    let m = parts::delivery(f.kind, f.sender, f.receiver);
-    steps(m, r, mid_drain(no_line(), at, count + 1))
 }
 
 // A record after the set-up; behind it stands place at.
-fn record_turn(rows: [Row; 7], down: [bool; 7], q: Read, at: usize) -> Turn
-    ensures { result ≡ record_turn (first_in (flying rows down)) q at }
+#[tactic(auto, unfolding(crate::specs::Turning::taken_turn, basics::specs::Choice::ite, basics::specs::Choice::both))]
+fn taken_turn(rows: [Row; 7], down: [bool; 7], r: Record, at: usize) -> Turn
+    ensures { result ≡ taken_turn (first_in (flying rows down)) r at }
 {
-    if q.refusal != 0 {
-        return quiet(last_line(unread(q)));
+    match r.kind {
+        0 => quiet(Some(misplaced(r)), Ahead::Record(at)),
+        8 => drain_turn(rows, down, at, 0),
+        _ => steps(step_of(r), r, Ahead::Record(at)),
     }
-    let r = q.record;
-    if r.kind == 0 {
-        return quiet(onward(entry(r, 17, 0, 0), at));
-    }
-    if r.kind == 8 {
-        return drain_turn(rows, down, at, 0);
-    }
-    steps(step_of(r), r, onward(no_line(), at))
 }
 
-pub(crate) fn next_turn(schedule: &[u8], b: Stand, rows: [Row; 7], down: [bool; 7]) -> Turn
-    requires { b.count < 100000 }
-    ensures { result ≡ next_turn schedule.now (first_in (flying rows down)) b }
+#[tactic(auto, unfolding(crate::specs::Turning::next_turn, crate::specs::Turning::record_turn, basics::specs::Choice::ite, basics::specs::Choice::both))]
+pub(crate) fn next_turn(schedule: &[u8], ahead: Ahead, rows: [Row; 7], down: [bool; 7]) -> Turn
+    requires { count_of ahead < 100000 }
+    ensures { result ≡ next_turn schedule.now (first_in (flying rows down)) ahead }
 {
-    if b.ended {
-        return quiet(no_more());
+    match ahead {
+        Ahead::Ended => quiet(None, Ahead::Ended),
+        Ahead::Drain { at, count } => drain_turn(rows, down, at, count),
+        Ahead::Record(at) => {
+            if schedule.len() <= at {
+                return quiet(None, Ahead::Ended);
+            }
+            match schedule::read_record(schedule, at) {
+                Ok(t) => taken_turn(rows, down, t.record, at + t.used),
+                Err(u) => quiet(Some(unread(u)), Ahead::Ended),
+            }
+        }
     }
-    let at = b.at;
-    if b.draining {
-        return drain_turn(rows, down, at, b.count);
-    }
-    if schedule.len() <= at {
-        return quiet(no_more());
-    }
-    let q = schedule::read_record(schedule, at);
-    record_turn(rows, down, q, at + q.used)
 }
 
+#[tactic(auto, unfolding(crate::specs::Turning::after_turn, basics::specs::Choice::some_or, basics::specs::Choice::ite, basics::specs::Choice::both))]
 pub(crate) fn after_turn(t: Turn, a: Answer) -> Stand
     ensures { result ≡ after_turn t a }
 {
-    let stand = t.stand;
-    if !t.tells {
-        return stand;
+    match t.tells {
+        None => t.stand,
+        Some(r) => Stand {
+            line: Some(told(r, a)),
+            ahead: t.stand.ahead,
+        },
     }
-    let r = t.record;
-    let mut b = stand;
-    b.line = told(r, a);
-    b
 }
 
 // ---- the first record
 
-fn first_record(q: Read, made: Ready) -> Stand
-    ensures { bench_at made.network result ≡ first_record q made }
+// There is no network, and the bench has ended.
+fn ended(line: Option<Line>) -> Start
+    ensures { result ≡ record { network = no_network; stand = record { line = line; ahead = Ended } } }
 {
-    if q.refusal != 0 {
-        return last_line(unread(q));
+    Start {
+        network: network::nothing(),
+        stand: Stand {
+            line,
+            ahead: Ahead::Ended,
+        },
     }
-    let r = q.record;
-    if r.kind != 0 {
-        return last_line(entry(r, 17, 0, 0));
-    }
-    if made.refusal != 0 {
-        return last_line(entry(r, made.refusal, 0, 0));
-    }
-    onward(entry(r, 0, 0, 0), q.used)
 }
 
+#[tactic(auto, unfolding(crate::specs::Machine::first_record, crate::specs::Machine::first_made, basics::specs::Choice::ite, basics::specs::Choice::both))]
+fn first_record(t: Taken) -> Start
+    ensures { bench_at result.network result.stand ≡ first_record (Ok t) }
+{
+    let r = t.record;
+    if r.kind != 0 {
+        return ended(Some(misplaced(r)));
+    }
+    match network::set_up(r.a, r.b, r.c, r.value) {
+        Err(refusal) => ended(Some(entry(r, refusal.number(), None))),
+        Ok(network) => {
+            let line = Some(entry(r, 0, None));
+            let ahead = Ahead::Record(t.used);
+            let stand = Stand { line, ahead };
+            Start { network, stand }
+        }
+    }
+}
+
+#[tactic(auto, unfolding(crate::specs::Machine::opened, crate::specs::Machine::first_record, basics::specs::Choice::ite, basics::specs::Choice::both))]
 pub(crate) fn opened(schedule: &[u8]) -> Start
     ensures { bench_at result.network result.stand ≡ opened schedule.now }
 {
-    let q = schedule::read_record(schedule, 0);
-    let r = q.record;
-    let made = network::set_up(r.a, r.b, r.c, r.value);
-    let network = made.network;
     if schedule.len() == 0 {
-        return Start {
-            network,
-            stand: no_more(),
-        };
+        return ended(None);
     }
-    Start {
-        network,
-        stand: first_record(q, made),
+    match schedule::read_record(schedule, 0) {
+        Ok(t) => first_record(t),
+        Err(u) => ended(Some(unread(u))),
     }
 }

@@ -4,6 +4,8 @@ use mathlib.Core.Path.{sym, ◌∙◌}
 use Rattle.basics.specs.Outcome.{OneResult}
 use Rattle.network.proofs.set_up.Kinds as set-up-kinds
 use Rattle.network.proofs.set_up.Reads as set_up
+use Rattle.network.proofs.nothing.Kinds as nothing-kinds
+use Rattle.network.proofs.nothing.Reads as nothing
 use Rattle.network.proofs.in_form.Kinds as in-form-kinds
 use Rattle.network.proofs.in_form.Reads as in-form
 use Rattle.network.proofs.write.Kinds as write-kinds
@@ -21,6 +23,9 @@ use Rattle.network.proofs.drain.Reads as drain
 
 pub set-up-only : OneResult 0 set-up-kinds.ps set-up-kinds.r set_up.Post
 set-up-only κs a x y e f p q = p ∙ sym q
+
+pub nothing-only : OneResult 0 nothing-kinds.ps nothing-kinds.r nothing.Post
+nothing-only κs a x y e f p q = p ∙ sym q
 
 pub in-form-only : OneResult 0 in-form-kinds.ps in-form-kinds.r in-form.Post
 in-form-only κs a x y e f p q = p ∙ sym q

@@ -11,7 +11,7 @@ ghost use Rattle.house.specs.Search.{first_in};
 ghost use Rattle.steps.specs.Steps.{checked, written, begun, delivered, lost};
 ghost use Rattle.steps.specs.Search.{sought};
 ghost use Rattle.steps.specs.Drain.{drain_in, drained};
-ghost use Rattle.steps.specs.SetUp.{fresh_network, set_up};
+ghost use Rattle.steps.specs.SetUp.{fresh_network, no_network, set_up};
 ghost use Rattle.parts.specs.Steps.{step_in};
 
 use basics::Refusal;
@@ -128,6 +128,13 @@ fn fresh(n: u8, t: u8, writer: u8, initial: u32) -> Network
 }
 
 // ---- the public calls
+
+// A network of zeros: what stands where set-up makes none.
+pub fn nothing() -> Network
+    ensures { result ≡ no_network }
+{
+    fresh(0, 0, 0, 0)
+}
 
 #[tactic(auto, using(basics::proofs::Refusals::in_turn), unfolding(steps::specs::SetUp::set_up))]
 pub fn set_up(n: u8, t: u8, writer: u8, initial: u32) -> Result<Network, Refusal>

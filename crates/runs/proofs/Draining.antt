@@ -3,7 +3,8 @@
 use Prim.Native.Nat.{ℕ, zero, suc, ◌+◌}
 use mathlib.Core.Path.{◌≡◌, refl, sym, ap, subst, ◌∙◌}
 use native.Mathlib.Omega.{arith}
-use Rattle.basics.specs.Refusal.{code}
+use Rattle.std.specs.Prelude.{Result, Ok, Err}
+use Rattle.basics.{proofs.Refusals.number-some, specs.Refusal.code, specs.declared.refused.Refusal.Refusal}
 use Rattle.promise.specs.View.{code_of}
 use Rattle.house.specs.declared.{InFlight.InFlight, Network.Network}
 use Rattle.steps.proofs.{Draining.by-case, Settling.not-refused, WholeDrain.{drained-is, drained-deliveries, drained-still}}
@@ -48,6 +49,14 @@ never-refused (suc f) s₀ s m h =
 module _ (s : Network) (h : Holds s) where
   pub drain-taken : code (drained s).answer ≡ 0
   drain-taken = ap (λ (d : Drained). code d.answer) (drained-is s h.good) ∙ never-refused (suc (load_of s)) s s 0 h
+
+  -- it is not refused
+  pub drain-ok : (drained s).answer ≡ Ok (counted (drained s).answer)
+  drain-ok = by (drained s).answer drain-taken
+    where
+      by : (a : Result ℕ Refusal) → code a ≡ 0 → a ≡ Ok (counted a)
+      by (Ok m) z = refl
+      by (Err r) z = absurd (number-some r z)
 
   pub drain-went : Went 0 0 (counted (drained s).answer) s (drained s).network
   drain-went = deliveries-went h (drained-deliveries s h.good drain-taken)

@@ -18,6 +18,10 @@ fresh_network n t writer initial =
       down = replicate 7 false;
     }
 
+-- what stands where set-up makes none
+abbrev pub no_network : Network
+no_network = fresh_network 0 0 0 0
+
 -- 1: "set-up with n, t or writer out of range"
 unfoldable pub set_up : ℕ → ℕ → ℕ → ℕ → Result Network Refusal
 set_up n t writer initial = and_then (met (refuse OutOfRange (not (fits n t writer)) ∷ [])) (Ok (fresh_network n t writer initial))

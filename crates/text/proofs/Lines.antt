@@ -75,9 +75,11 @@ pub line-laid : (l : Line) {step kind a b answer result r : Text} →
     Appended b (32 ∷ panel_text (Some l.answer)) 4 answer →
     Appended answer (32 ∷ result_text l.result) 12 result →
     Appended result (10 ∷ []) 1 r →
-    (r ≡ text_of (line_text l)) × (r.length ≤ 39)
+    (r ≡ text_of (line_text l)) × (r.length ≤ 39) × (r.length ≤ length (dec l.step) + 29)
 unfolding nothing parts
-line-laid l {r = r} p1 p2 p3 p4 p5 p6 p7 =
-    let laid : Appended nothing (parts l) 39 r = behind p1 (behind p2 (behind p3 (behind p4 (behind p5 (behind p6 p7))))) in
+line-laid l {step} {r = r} p1 p2 p3 p4 p5 p6 p7 =
+    let rest = behind p2 (behind p3 (behind p4 (behind p5 (behind p6 p7)))) in
+    let laid : Appended nothing (parts l) 39 r = behind p1 rest in
+    let first : step.length ≡ 0 + length (dec l.step) = long_as nothing (dec l.step) p1.text in
     let text : r ≡ appended nothing (line_text l) = laid.text ∙ ap (appended nothing) (sym (line-parts l)) in
-    (text ∙ from_nothing (line_text l) (omega (arith, laid.most, long_as nothing (line_text l) text)), laid.most)
+    (text ∙ from_nothing (line_text l) (omega (arith, laid.most, long_as nothing (line_text l) text)), laid.most, omega (arith, rest.most, first))

@@ -127,7 +127,7 @@ impl Text {
 }
 
 pub fn line_text(l: Line) -> Text
-    ensures { (result ≡ text_of (line_text l)) × (result.length ≤ 39) }
+    ensures { (result ≡ text_of (line_text l)) × (result.length ≤ 39) × (result.length ≤ length (dec l.step) + 29) }
 {
     let mut text = Text::EMPTY;
     text.push_number(l.step);

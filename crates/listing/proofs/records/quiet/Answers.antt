@@ -1,4 +1,0 @@
-use Rattle.listing.proofs.records.quiet.Goals as goal
-
-pub returns : goal.returns
-returns c = simp c.the_drain.ensures
