@@ -1,5 +1,6 @@
 //! "The network knows a panel by that panel's contract alone": no proof of a crate above the panel's
-//! promise opens a rule of the panel. Read off the proofs. Closed cases, which compute, are excepted.
+//! promise opens a rule of the panel. Read off the proofs, and off the sources, whose attributes open definitions too.
+//! Closed cases, which compute, are excepted.
 
 use compare::folders::files;
 use std::collections::{BTreeMap, BTreeSet};
@@ -71,6 +72,20 @@ fn rules_opened(text: &str) -> Vec<&str> {
     opened(text).into_iter().filter(|name| is_rule(name)).collect()
 }
 
+/// The rules of the panel that the attributes of a source open: the paths of each `unfolding(..)`.
+fn rules_unfolded(source: &str) -> Vec<&str> {
+    let mut found = Vec::new();
+    for list in source.split("unfolding(").skip(1) {
+        for path in list.split(')').next().unwrap().split(',').map(str::trim) {
+            let Some((module, name)) = path.rsplit_once("::") else { continue };
+            if RULES.contains(&module.replace("::", ".").as_str()) && !NO_RULES.contains(&name) {
+                found.push(path);
+            }
+        }
+    }
+    found
+}
+
 /// The proofs of a crate, other than closed cases.
 fn proofs(name: &str) -> Vec<PathBuf> {
     let mut found = files(format!("crates/{name}/proofs"), "antt");
@@ -81,13 +96,33 @@ fn proofs(name: &str) -> Vec<PathBuf> {
 #[test]
 fn no_proof_above_the_promise_opens_a_rule_of_the_panel() {
     let mut read = 0;
-    for file in ABOVE.into_iter().flat_map(proofs) {
-        let text = fs::read_to_string(&file).unwrap();
-        let rules = rules_opened(&text);
-        assert!(rules.is_empty(), "{} opens {rules:?}", file.display());
-        read += 1;
+    for own in ABOVE {
+        let files = proofs(own);
+        assert!(files.len() >= 5, "only {} proof files of {own} were read", files.len());
+        for file in &files {
+            let text = fs::read_to_string(file).unwrap();
+            let rules = rules_opened(&text);
+            assert!(rules.is_empty(), "{} opens {rules:?}", file.display());
+        }
+        read += files.len();
     }
-    assert!(read >= 60, "only {read} proof files were read");
+    assert!(read >= 50, "only {read} proof files were read");
+}
+
+#[test]
+fn no_source_above_the_promise_opens_a_rule_of_the_panel() {
+    let mut unfolded = 0;
+    for own in ABOVE {
+        let sources = files(format!("crates/{own}/src"), "rt");
+        assert!(!sources.is_empty(), "no source of {own} was read");
+        for file in sources {
+            let text = fs::read_to_string(&file).unwrap();
+            let rules = rules_unfolded(&text);
+            assert!(rules.is_empty(), "{} opens {rules:?}", file.display());
+            unfolded += text.matches("unfolding(").count();
+        }
+    }
+    assert!(unfolded >= 10, "only {unfolded} attributes were read");
 }
 
 #[test]
@@ -95,6 +130,11 @@ fn a_rule_that_is_opened_is_told() {
     let text = "use Rattle.events.specs.Rules.{take, value_of}\nuse Rattle.refusals.specs.Refusals as refusals\n\
                 unfolding take value_of mine\nx = unfold refusals.stray other in y\n  unfolding\n    mine\n    refusals.trials\n  y = take\n";
     assert_eq!(rules_opened(text), ["refusals.stray", "refusals.trials", "take"]);
+    let source = "#[tactic(auto, unfolding(crate::specs::NetForm::take, events::specs::Rules::value_of))]\n\
+                  #[tactic(auto, using(basics::proofs::Refusals::in_turn), unfolding(crate::specs::Form::x, events::specs::Rules::take))]\n\
+                  #[tactic(auto, unfolding(refusals::specs::Refusals::stray), using(a::b))]\n";
+    let rules = ["events::specs::Rules::take", "refusals::specs::Refusals::stray"];
+    assert_eq!(rules_unfolded(source), rules);
 }
 
 /// The promise itself is where the rules are opened, so the reading of files is known to see it.
