@@ -3,15 +3,17 @@
 -- Assumes nothing.
 use Prim.Native.Nat.{ℕ}
 use mathlib.Core.{Logic.◌≢◌, Path.{◌≡◌, refl, sym, ap, subst, ◌∙◌}}
+use Rattle.std.specs.Prelude.{Option, Result, Ok, Err, None}
+use Rattle.basics.specs.declared.refused.Refusal.{Refusal}
 use Rattle.promise.specs.View.{code_of}
-use Rattle.house.specs.declared.Network.{Network}
+use Rattle.house.specs.declared.{InFlight.InFlight, Network.Network}
 use Rattle.steps.proofs.{Keeping.{Kept, written-kept, begun_kept, delivered-kept, lost-kept}, Networks.{Good, good-test}}
 use Rattle.steps.proofs.Powers.{write-down, read_down, deliver-down, drained-down}
 use Rattle.steps.proofs.Refusing.{OneOf, write-numbers, read-numbers, deliver-numbers, lose-numbers, drained-numbers}
 use Rattle.steps.proofs.Settling.{checked-in-form, tried-accepted, step-done}
 use Rattle.steps.proofs.WholeDrain.{sought-is, drained-none, drain-goes-on, drain-breaks-off, drain-fails, drained-deliveries, drained-still, drained-kept}
 use Rattle.steps.specs.Steps.{write_trials, read_trials, deliver_trials, lose_trials, checked, write_in, read_in, deliver_in, lose_in}
-use Rattle.steps.specs.declared.{Sought.Sought, Stepped.Stepped}
+use Rattle.steps.specs.declared.Stepped.{Stepped}
 use Rattle.runs.specs.Runs.{Step, did, emptied, does, Step.{write, read, deliver, lose, drain}}
 use Rattle.claims.specs.Acts.{Acts, ByDeliveries, numbers}
 
@@ -59,8 +61,12 @@ module _ (s : Network) (g : Good s) where
   pub by-deliveries : ByDeliveries s
   by-deliveries =
       record {
-        ends = λ e. drained-none s g (sym (ap (λ (x : Sought). x.found.any) (sought-is s g)) ∙ e);
+        ends = λ e. drained-none s g (ap found (sym (sought-is s g) ∙ e));
         refused = drain-fails s g;
         refused_later = drain-breaks-off s g;
         going_on = drain-goes-on s g;
       }
+    where
+      found : Result (Option InFlight) Refusal → Option InFlight
+      found (Ok o) = o
+      found (Err r) = None
