@@ -3,10 +3,8 @@
 -- Assumes nothing.
 use Prim.Native.Nat.{ℕ}
 use mathlib.Core.{Logic.◌≢◌, Path.{◌≡◌, refl, sym, ap, subst, ◌∙◌}}
-use Rattle.std.specs.Prelude.{Option, Result, Ok, Err, None}
-use Rattle.basics.specs.declared.refused.Refusal.{Refusal}
 use Rattle.promise.specs.View.{code_of}
-use Rattle.house.specs.declared.{InFlight.InFlight, Network.Network}
+use Rattle.house.specs.declared.Network.{Network}
 use Rattle.steps.proofs.{Keeping.{Kept, written-kept, begun_kept, delivered-kept, lost-kept}, Networks.{Good, good-test}}
 use Rattle.steps.proofs.Powers.{write-down, read_down, deliver-down, drained-down}
 use Rattle.steps.proofs.Refusing.{OneOf, write-numbers, read-numbers, deliver-numbers, lose-numbers, drained-numbers}
@@ -61,12 +59,8 @@ module _ (s : Network) (g : Good s) where
   pub by-deliveries : ByDeliveries s
   by-deliveries =
       record {
-        ends = λ e. drained-none s g (ap found (sym (sought-is s g) ∙ e));
+        ends = λ e. let found = sym (sought-is s g) ∙ e in drained-none s g (cc);
         refused = drain-fails s g;
         refused_later = drain-breaks-off s g;
         going_on = drain-goes-on s g;
       }
-    where
-      found : Result (Option InFlight) Refusal → Option InFlight
-      found (Ok o) = o
-      found (Err r) = None

@@ -76,7 +76,7 @@ unfolding sought
 search-finds-the-first s x e = by (met _) e
   where
     by : (m : Result Unit Refusal) → and_then m (Ok (first_in s)) ≡ Ok (Some x) → Hits s x
-    by (Ok u) z = found s x (same_Ok _ _ z)
+    by (Ok u) z = found s x (cc)
     by (Err r) z = absurd (number-some r (ap (λ (a : Result (Option InFlight) Refusal). code a) z))
 
 -- ---- runs

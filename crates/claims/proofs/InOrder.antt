@@ -1,17 +1,16 @@
 -- Every call answers by the first of its trials that applies, 0 where none does.
 -- Assumes nothing.
 use Prim.Native.Nat.{ℕ, ◌-◌, ◌<◌}
-use mathlib.Core.{Bool.not, List.{List, ◌∷◌, []}, Path.{◌≡◌, refl, sym, ap, subst, ◌∙◌}}
+use mathlib.Core.{Bool.not, List.{List, ◌∷◌, []}, Path.{◌≡◌, sym, ap, subst}}
 use native.Mathlib.Omega.{arith}
 use borrow.Author.Tests.{ltb-true, ltb-false, not-true, not-false}
 use Rattle.std.specs.Prelude.{Result}
 use Rattle.basics.specs.{Refusal.{refuse, first_of, code}, declared.refused.Refusal.Refusal, declared.refused.Refusal.TheVariants.NotInForm}
-use Rattle.wire.specs.{Messages.{wire, Written}, declared.Taken.Taken}
+use Rattle.wire.specs.Messages.{wire, Written}
 use Rattle.wire.specs.Messages as wires
 use Rattle.wire.proofs.Cases as messages
 use Rattle.wire.proofs.Laws as message
-use Rattle.schedule.specs.{Records.{records, refusing, Outcome}, declared.Unread.Unread}
-use Rattle.schedule.specs.declared.Taken as Scheduled
+use Rattle.schedule.specs.Records.{records, refusing, Outcome}
 use Rattle.schedule.specs.Records as schedules
 use Rattle.schedule.proofs.Cases as entries
 use Rattle.schedule.proofs.Laws as entry
@@ -106,23 +105,23 @@ answers (Call.deliver s k i j) = deliver-first s k i j
 answers (Call.lose s i) = lose-first s i
 answers (Call.search s) = search-first s
 answers (Call.write_message k v area) =
-    tries _ (λ e. ap wrote (messages.writing-short k v area (ltb-true _ _ e))) λ e.
-    tries [] (λ h. ap wrote (messages.writing-refused k v area (ltb-false _ _ e) (not-true _ h)))
+    tries _ _ (λ e. ap wrote (messages.writing-short k v area (ltb-true _ _ e))) λ e.
+    tries _ [] (λ h. ap wrote (messages.writing-refused k v area (ltb-false _ _ e) (not-true _ h)))
     (λ h. passes (ap wrote (messages.writing-sent k v area (ltb-false _ _ e) (not-false _ h))))
   where
     wrote : Written → ℕ
     wrote o = code o.answer
 answers (Call.read_message s) = message-first s
 answers (Call.write_record r area) =
-    tries _ (λ e. ap wrote (entries.writing-short r area (ltb-true _ _ e))) λ e.
-    tries [] (λ h. ap wrote (entries.writing-refused r area (ltb-false _ _ e) (not-true _ h)))
+    tries _ _ (λ e. ap wrote (entries.writing-short r area (ltb-true _ _ e))) λ e.
+    tries _ [] (λ h. ap wrote (entries.writing-refused r area (ltb-false _ _ e) (not-true _ h)))
     (λ h. passes (ap wrote (entries.writing-done r area (ltb-false _ _ e) (not-false _ h))))
   where
     wrote : Outcome → ℕ
     wrote o = code o.answer
 answers (Call.read_record s at) = record-first s at
 answers (Call.list s area) =
-    tries [] (λ e. (listed.refused-3-iff s area).1 (ltb-true _ _ e)) (λ e. passes ((listed.accepted-iff s area).1 (ltb-false _ _ e)))
+    tries _ [] (λ e. (listed.refused-3-iff s area).1 (ltb-true _ _ e)) (λ e. passes ((listed.accepted-iff s area).1 (ltb-false _ _ e)))
 
 pub first-that-applies : (c : Call) → First (trials_of c) (answer_of c)
 first-that-applies c = subst (First (trials_of c)) (sym (answers c)) (first-of (trials_of c))

@@ -46,11 +46,11 @@ unfolding with_channel fits_in post posts posted_all taken
 posting-opened = tt
 
 form-opened : Unit {0}
-unfolding form.fits form.is_panel form.at_writer form.place_with form.place_ok form.operation_ok form.in_form form.empty_line form.fresh
+unfolding form.fits form.is_panel form.at_writer form.place_with form.place_ok form.operation_ok form.idle form.in_form form.empty_line form.fresh
 form-opened = tt
 
 tests-opened : Unit {0}
-unfolding refusal.is_peer refusal.is_idle refusal.right_bit refusal.too_high refusal.stray refusal.line_full refusal.trials
+unfolding refusal.is_peer refusal.right_bit refusal.too_high refusal.stray refusal.line_full refusal.trials
 tests-opened = tt
 
 trials-opened : Unit {0}

@@ -2,7 +2,7 @@
 -- a step of a network.
 -- Assumes nothing.
 use Prim.Native.Nat.{ℕ, ◌≤◌}
-use mathlib.Core.{Bool.{Bool, true, false, not}, List.{List, [], ◌∷◌, ◌++◌}, Logic.{◌⊎◌, inl, inr}, Path.{◌≡◌, refl, sym, ap, ◌∙◌}}
+use mathlib.Core.{Bool.{true, false, not}, List.{List, [], ◌∷◌, ◌++◌}, Logic.{◌⊎◌, inl, inr}, Path.{◌≡◌, refl, sym, ap, ◌∙◌}}
 use native.Mathlib.{Decide.ℕ_discrete, Omega.arith}
 use lib.ListN.{length}
 use borrow.Author.Tests.{lt-ltb, le-ltb, lt-leb, le-leb, not-true, not-false}
@@ -32,10 +32,9 @@ first-of [] = First.none
 first-of (t ∷ ts) = ite-case (First (t ∷ ts)) t.given _ _ (λ e. First.here e) (λ e. First.later e (first-of ts))
 
 -- an answer is the refusal's number where the trial applies, and what the others give where it does not
-pub tries :
-    {a : ℕ} {r : Refusal} {b : Bool} (ts : List Trial) → (b ≡ true → a ≡ number_of r) → (b ≡ false → a ≡ first_of ts) → a ≡ first_of (refuse r b ∷ ts)
-tries {b = true} ts f g = f refl ∙ sym (first-given _ _ refl)
-tries {b = false} ts f g = g refl ∙ sym (first-not _ _ refl)
+pub tries : {a : ℕ} (t : Trial) (ts : List Trial) → (t.given ≡ true → a ≡ number_of t.refusal) → (t.given ≡ false → a ≡ first_of ts) → a ≡ first_of (t ∷ ts)
+unfolding first_of
+tries {a} t ts f g = ite-case (λ (k : ℕ). a ≡ k) t.given _ _ f g
 
 -- and 0 where nothing is left to try
 pub passes : {a : ℕ} → a ≡ 0 → a ≡ first_of []
@@ -111,7 +110,7 @@ module _ (s : Network) (own rest : List Trial) (a : Stepped) where
       (net_form s ≡ true → first_of own ≡ 0 → number a ≡ first_of rest) →
       number (checked s (tried own s a)) ≡ first_of (refuse NotInForm (not (net_form s)) ∷ own ++ rest)
   checked-first h =
-      tries (own ++ rest) (λ e. ap number (checked_refused s _ (not-true _ e)) ∙ code-refused NotInForm)
+      tries _ (own ++ rest) (λ e. ap number (checked_refused s _ (not-true _ e)) ∙ code-refused NotInForm)
       (λ e. ap number (checked-in-form s _ (not-false _ e)) ∙ own_first (h (not-false _ e)))
 
 -- then those of the panel that acts, and 14
@@ -124,7 +123,7 @@ module _ (s s₁ : Network) (i : ℕ) (q : Next) (ts : List Trial) (panel : code
       by (no n) =
           ap number (settled-refused s s₁ i q (λ z. n (sym panel ∙ z))) ∙ panel ∙ sym (first_stops ts _ _ n refl)
       by (yes z) =
-          tries [] (λ e. ap number (settled-full s s₁ i q (panel ∙ z) (not-true _ e)) ∙ code-refused ChannelFull)
+          tries _ [] (λ e. ap number (settled-full s s₁ i q (panel ∙ z) (not-true _ e)) ∙ code-refused ChannelFull)
           (λ e. passes (ap number (settled-done s s₁ i q (panel ∙ z) (not-false _ e)) ∙ panel ∙ z))
           ∙ sym (first_past ts _ z)
 

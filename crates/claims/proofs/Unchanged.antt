@@ -2,14 +2,14 @@
 -- Assumes nothing.
 use Prim.Native.Nat.{ℕ, zero, suc, ◌+◌}
 use mathlib.Core.{Bool.{Bool, true, false}, List.{List, []}, Logic.◌≢◌, Path.{◌≡◌, refl, sym, ap, ◌∙◌}}
-use native.Mathlib.Omega.{arith}
 use lib.{Dec.ltb, ListN.length}
 use borrow.Author.Tests.{ltb-true, ltb-false}
 use Rattle.std.specs.Prelude.{Result, Ok, Err}
 use Rattle.basics.{proofs.Choices.ite-case, specs.Refusal.{Trial, code}, specs.declared.refused.Refusal.Refusal}
 use Rattle.wire.specs.Messages.{writing}
 use Rattle.wire.proofs.Writing as message
-use Rattle.schedule.specs.{Records, declared.Record.Record}
+use Rattle.schedule.specs.Records as records
+use Rattle.schedule.specs.declared.Record.{Record}
 use Rattle.schedule.proofs.Writing as entry
 use Rattle.messages.{proofs.Laying.further-none, specs.Area.{Area, laid_in, room_of}, specs.Sends.{Message, messages_of}}
 use Rattle.form.specs.declared.Tables.{Tables}
@@ -17,7 +17,7 @@ use Rattle.refusals.specs.Refusals.{Event, refusal}
 use Rattle.events.specs.Events.{happens}
 use Rattle.panel.specs.{Calls.{panel_of, next_of, after, told, called}, declared.Next.Next, declared.Panel.Panel}
 use Rattle.promise.{proofs.AfterEvents.after-code, proofs.Happenings.{code_is, refused-tables, refused-messages}, specs.View.code_of}
-use Rattle.house.specs.declared.{InFlight.InFlight, Network.Network}
+use Rattle.house.specs.declared.Network.{Network}
 use Rattle.steps.{proofs.Draining.by-case, proofs.Settling.{code-nothing, tried-case, settled_case}, specs.Drain.{next_in, drain_by, drain_in, drained}}
 use Rattle.steps.specs.Numbers.{load_of}
 use Rattle.steps.specs.Steps.{tried, settled, checked, write_in, read_in, deliver_in, lose_in, written, begun, delivered, lost}
@@ -102,7 +102,7 @@ refused-as (Err r) n = (r, refl)
 message-unchanged : (k v : ℕ) (area : List ℕ) → code (writing k v area).answer ≢ 0 → (writing k v area).area ≡ area
 message-unchanged k v area n = let q = refused-as _ n in message.refused-untouched k v area q.0 q.1
 
-record-unchanged : (r : Record) (area : List ℕ) → code (Records.writing r area).answer ≢ 0 → (Records.writing r area).area ≡ area
+record-unchanged : (r : Record) (area : List ℕ) → code (records.writing r area).answer ≢ 0 → (records.writing r area).area ≡ area
 record-unchanged r area n = let q = refused-as _ n in entry.refused-untouched r area q.0 q.1
 
 list-unchanged : (s area : List ℕ) → code (listing s area).answer ≢ 0 → (listing s area).area ≡ area
