@@ -75,22 +75,23 @@ module _ (r : Record) (qs : List (Result Taken Unread)) where
   unfolding first head_answer entry
   other-head e = ap head_answer (ite-false _ _ e)
 
-  made-head : {m : Result Network Refusal} → eqb r.kind 0 ≡ true → set_up r.a r.b r.c r.value ≡ m → head_answer (first r qs) ≡ code m
+  of_set-up : (m : Result Network Refusal) → head_answer (first_set_up m r qs) ≡ code m
+  unfolding first_set_up head_answer entry
+  of_set-up (Ok s) = refl
+  of_set-up (Err x) = refl
+
+  set-up-head : {m : Result Network Refusal} → eqb r.kind 0 ≡ true → set_up r.a r.b r.c r.value ≡ m → head_answer (first r qs) ≡ code m
   unfolding first
-  made-head e f = ap head_answer (ite-true _ _ e) ∙ ap (λ (m : Result Network Refusal). head_answer (first_set_up m r qs)) f ∙ answers-so _
-    where
-      answers-so : (m : Result Network Refusal) → head_answer (first_set_up m r qs) ≡ code m
-      unfolding first_set_up head_answer entry
-      answers-so (Ok s) = refl
-      answers-so (Err x) = refl
+  set-up-head {m} e f =
+      ap head_answer (ite-true _ _ e) ∙ ap (λ (x : Result Network Refusal). head_answer (first_set_up x r qs)) f ∙ of_set-up m
 
 first-answer : (q : Result Taken Unread) (qs : List (Result Taken Unread)) → ReadOr q → head_answer (all (q ∷ qs)) ≡ first_of (first_record_trials q)
 unfolding first_record_trials record_in all head_answer unread
 first-answer (Err u) qs h = unread-first u _ h
 first-answer (Ok t) qs h =
     tries _ _ (λ e. other-head _ qs (not-true _ e))
-    (λ e. tries _ [] (λ f. made-head _ qs (not-false _ e) (set-up-refused _ _ _ _ (not-true _ f)))
-    (λ f. passes (made-head _ qs (not-false _ e) (set-up-taken _ _ _ _ (not-false _ f)))))
+    (λ e. tries _ [] (λ f. set-up-head _ qs (not-false _ e) (set-up-refused _ _ _ _ (not-true _ f)))
+    (λ f. passes (set-up-head _ qs (not-false _ e) (set-up-taken _ _ _ _ (not-false _ f)))))
     ∙ sym (taken-first t _)
 
 pub first-record-in-order :

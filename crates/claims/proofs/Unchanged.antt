@@ -111,6 +111,7 @@ list-unchanged s area n = by (ltb (length area) longest) refl
     by : (b : Bool) → ltb (length area) longest ≡ b → (listing s area).area ≡ area
     by true e = listed.refused-untouched s area (ltb-true _ _ e)
     by false e = absurd (n ((listed.accepted-iff s area).1 (ltb-false _ _ e)))
+
 -- ---- all calls
 
 pub unchanged : (c : Call) → answer_of c ≢ 0 → Unchanged c
