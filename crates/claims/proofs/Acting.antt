@@ -11,7 +11,7 @@ use Rattle.steps.proofs.Refusing.{OneOf, write-numbers, read-numbers, deliver-nu
 use Rattle.steps.proofs.Settling.{checked-in-form, tried-accepted, step-done}
 use Rattle.steps.proofs.WholeDrain.{sought-is, drained-none, drain-goes-on, drain-breaks-off, drain-fails, drained-deliveries, drained-still, drained-kept}
 use Rattle.steps.specs.Steps.{write_trials, read_trials, deliver_trials, lose_trials, checked, write_in, read_in, deliver_in, lose_in}
-use Rattle.steps.specs.declared.{Sought.Sought, Stepped.Stepped}
+use Rattle.steps.specs.declared.Stepped.{Stepped}
 use Rattle.runs.specs.Runs.{Step, did, emptied, does, Step.{write, read, deliver, lose, drain}}
 use Rattle.claims.specs.Acts.{Acts, ByDeliveries, numbers}
 
@@ -59,7 +59,7 @@ module _ (s : Network) (g : Good s) where
   pub by-deliveries : ByDeliveries s
   by-deliveries =
       record {
-        ends = λ e. drained-none s g (sym (ap (λ (x : Sought). x.found.any) (sought-is s g)) ∙ e);
+        ends = λ e. let found = sym (sought-is s g) ∙ e in drained-none s g (cc);
         refused = drain-fails s g;
         refused_later = drain-breaks-off s g;
         going_on = drain-goes-on s g;

@@ -3,7 +3,9 @@
 use Prim.Native.Nat.{ℕ, ◌+◌, ◌-◌, ◌≤◌, ◌<◌}
 use mathlib.Core.{Bool.{Bool, true, false}, List.List, Path.{◌≡◌, refl, sym, ap, subst, ◌∙◌}}
 use native.Mathlib.Omega.{arith}
-use Rattle.basics.proofs.Choices.{ite-case, clash}
+use Rattle.std.specs.Prelude.{Option, Result, Ok, Err, Some}
+use Rattle.basics.{proofs.Refusals.number-some, specs.Refusal.{met, and_then, code}}
+use Rattle.basics.specs.declared.refused.Refusal.{Refusal, TheVariants.{NotInForm}}
 use Rattle.messages.specs.Area.{Area, room_of}
 use Rattle.form.specs.Form.{fits}
 use Rattle.refusals.specs.Refusals.{Event}
@@ -12,14 +14,14 @@ use Rattle.panel.specs.{Calls.{next_of, after, told, called}, declared.Panel.Pan
 use Rattle.promise.{proofs.Happenings.{accepted, code_is}, specs.View.code_of}
 use Rattle.channels.specs.Channels.{has}
 use Rattle.house.{proofs.Searching.{Hits, found, in-flight-between}, specs.NetForm.{net_form, downs}, specs.Places.{channel_of, n_of}}
-use Rattle.house.specs.{Search.live, Whole.Whole, declared.Network.Network}
+use Rattle.house.specs.{Search.{live, first_in}, Whole.Whole, declared.InFlight.InFlight, declared.Network.Network}
 use Rattle.house.proofs.NetForms as net
 use Rattle.steps.proofs.{AtStart.start-t, Networks.{Good, good_of, good-test}}
 use Rattle.steps.proofs.Settling.{checked-in-form, checked_refused, not-refused, tried-accepted, step-done}
 use Rattle.steps.{proofs.WholeDrain.{drained-out-of-form, drained-deliveries, drained-still}, specs.Drain.drained, specs.Search.sought}
 use Rattle.steps.specs.SetUp.{fresh_network}
 use Rattle.steps.specs.Steps.{write_trials, read_trials, deliver_trials, lose_trials, checked, write_in, read_in, deliver_in, lose_in, delivered}
-use Rattle.steps.specs.declared.{Drained.Drained, Sought.Sought, Stepped.Stepped}
+use Rattle.steps.specs.declared.{Drained.Drained, Stepped.Stepped}
 use Rattle.runs.{proofs.Running.run_holds, specs.Claims.Still, specs.Runs.{Step, did, emptied, does}}
 use Rattle.runs.specs.Runs.Step.{write, read, deliver, lose, drain}
 use Rattle.runs.specs.Runs as runs
@@ -43,19 +45,19 @@ formed s a z = by (net_form s) refl
   where
     by : (b : Bool) → net_form s ≡ b → net_form s ≡ true
     by true e = e
-    by false e = not-refused {k = 2} (omega arith) (subst (λ (x : Stepped). code_of x.answer ≡ 0) (checked_refused s a e) z)
+    by false e = not-refused NotInForm (subst (λ (x : Stepped). code_of x.answer ≡ 0) (checked_refused s a e) z)
 
 passed : (s : Network) (a : Stepped) → code_of (checked s a).answer ≡ 0 → (checked s a ≡ a) × (code_of a.answer ≡ 0)
 passed s a z =
     let e : checked s a ≡ a = checked-in-form s a (formed s a z) in
     (e, ap (λ (x : Stepped). code_of x.answer) (sym e) ∙ z)
 
-drain-formed : (s : Network) → (drained s).refusal ≡ 0 → net_form s ≡ true
+drain-formed : (s : Network) → code (drained s).answer ≡ 0 → net_form s ≡ true
 drain-formed s z = by (net_form s) refl
   where
     by : (b : Bool) → net_form s ≡ b → net_form s ≡ true
     by true e = e
-    by false e = let q : ◌≡◌ {A = ℕ} 2 0 = ap (λ (d : Drained). d.refusal) (sym (drained-out-of-form s e)) ∙ z in absurd (omega arith)
+    by false e = absurd (number-some NotInForm (ap (λ (d : Drained). code d.answer) (sym (drained-out-of-form s e)) ∙ z))
 
 pub acts : (s : Network) → Whole s → (e : Step) → (does s e).refusal ≡ 0 → Acts s e
 unfolding does did emptied Acts write_in read_in deliver_in lose_in
@@ -69,10 +71,13 @@ acts s w drain z =
 
 -- ---- the search
 
-pub search-finds-the-first : (s : Network) → (sought s).found.any ≡ true → Hits s (sought s).found
+pub search-finds-the-first : (s : Network) (x : InFlight) → sought s ≡ Ok (Some x) → Hits s x
 unfolding sought
-search-finds-the-first s =
-    ite-case (λ (x : Sought). x.found.any ≡ true → Hits s x.found) (net_form s) _ _ (λ _ e. found s e) (λ _ e. clash refl e)
+search-finds-the-first s x e = by (met _) e
+  where
+    by : (m : Result Unit Refusal) → and_then m (Ok (first_in s)) ≡ Ok (Some x) → Hits s x
+    by (Ok u) z = found s x (cc)
+    by (Err r) z = absurd (number-some r (ap (λ (a : Result (Option InFlight) Refusal). code a) z))
 
 -- ---- runs
 

@@ -7,8 +7,10 @@
 use Prim.Native.Nat.{ℕ, ◌-◌, ◌≤◌, ◌<◌}
 use mathlib.Core.{Bool.{true, false}, List.{List, ◌++◌}, Logic.◌≢◌, Path.◌≡◌}
 use lib.ListN.{length}
+use Rattle.std.specs.Prelude.{Ok}
+use Rattle.basics.specs.{Kinds.byte_of, Refusal.code, declared.kinds.Kind.Kind, declared.refused.Refusal.TheVariants.NotInForm}
 use Rattle.codec.specs.Numbers.{Bytes}
-use Rattle.wire.specs.declared.Taken.TheVariants as Read
+use Rattle.wire.specs.declared.Taken.{Taken}
 use Rattle.wire.specs.Messages.{bytes_of_message, reading}
 use Rattle.wire.proofs.Laws as wire
 use Rattle.form.specs.{Form.fits, declared.Operation.TheVariants.Idle, declared.Tables.Tables}
@@ -20,7 +22,7 @@ use Rattle.channels.specs.Channels.{has}
 use Rattle.house.{proofs.Searching.Pair, specs.NetForm.net_form, specs.Places.{tables_at, channel_of}, specs.Search.live}
 use Rattle.house.specs.declared.Network.{Network}
 use Rattle.steps.proofs.{Delivering.{DeliverMoves, deliver-moves}, Keeping.Kept, Networks.Good, Powers.{Lost, lose-lost}, Refusing.OneOf}
-use Rattle.steps.{proofs.WholeDrain.drained-out-of-form, specs.Drain.{drained_to, drained}, specs.SetUp.fresh_network}
+use Rattle.steps.{proofs.WholeDrain.drained-out-of-form, specs.Drain.{refused_as, drained}, specs.SetUp.fresh_network}
 use Rattle.steps.specs.Steps.{deliver_in, lose_in, delivered}
 use Rattle.listing.specs.Listing.{listing_of}
 use Rattle.listing.proofs.Cases as sample
@@ -49,13 +51,13 @@ pub refused-unchanged : (c : Call) → answer_of c ≢ 0 → Unchanged c
 refused-unchanged = refused.unchanged
 
 -- A drain tries 2, and then its deliveries: refused with the number of the first that is refused, as a whole, and nothing has changed.
-pub drain-out-of-form : (s : Network) → net_form s ≡ false → drained s ≡ drained_to s 2 0
+pub drain-out-of-form : (s : Network) → net_form s ≡ false → drained s ≡ refused_as s NotInForm
 drain-out-of-form = drained-out-of-form
 
 pub drain-by-deliveries : (s : Network) → Good s → ByDeliveries s
 drain-by-deliveries = step.by-deliveries
 
-pub drain-unchanged : (s : Network) → (drained s).refusal ≢ 0 → (drained s).network ≡ s
+pub drain-unchanged : (s : Network) → code (drained s).answer ≢ 0 → (drained s).network ≡ s
 drain-unchanged = refused.drain-unchanged
 
 -- What a network in form can refuse, step by step: `numbers` of specs/Acts.
@@ -91,10 +93,11 @@ network-stays-in-form = step.step_keeps
 
 -- Each message has one byte string, and reading it gives that message back.
 pub reading-gives-it-back :
-    (k v : ℕ) (rest : List ℕ) → wire.Message k v → reading (bytes_of_message k v ++ rest) ≡ Read.Message k v (length (bytes_of_message k v))
+    (k : Kind) (v : ℕ) (rest : List ℕ) → wire.Message (byte_of k) v →
+    reading (bytes_of_message (byte_of k) v ++ rest) ≡ Ok (record { kind = k; value = v; used = length (bytes_of_message (byte_of k) v) })
 reading-gives-it-back = wire.read-written
 
-pub one-byte-string : (s : List ℕ) (k v n : ℕ) → Bytes s → reading s ≡ Read.Message k v n → wire.ReadAs s k v n
+pub one-byte-string : (s : List ℕ) (m : Taken) → Bytes s → reading s ≡ Ok m → wire.ReadAs s (byte_of m.kind) m.value m.used
 one-byte-string = wire.written_read
 
 -- ---- Demand 3. Start fresh and run any list of steps: n, t and writer that fit, any values, any steps.
@@ -124,7 +127,7 @@ module _ (n t writer v : ℕ) (ok : fits n t writer ≡ true) (es : List Step) w
   quiet-is-idle = run.quiet-is-idle n t writer v ok es
 
   -- So a drain, which is never refused, ends every powered panel's operation.
-  pub drain-never-refused : (drained end).refusal ≡ 0
+  pub drain-never-refused : code (drained end).answer ≡ 0
   drain-never-refused = run.drain-never-refused n t writer v ok es
 
   pub drain-ends-operations : (i : ℕ) → i < n → live (drained end).network i ≡ true → (tables_at (drained end).network i).operation ≡ Idle

@@ -1,7 +1,7 @@
 -- The definitions that cases compute with, layer by layer. A claim over spared cases says `unfolding opened`; one that has a network
 -- tested for form says `unfolding opened-whole`.
 -- Assumes nothing.
-use Rattle.basics.specs.{Below.{one_if, all_below, count_below, list_below}, Choice.{ite, both}, Refusal.first_of}
+use Rattle.basics.specs.{Below.{one_if, all_below, count_below, list_below}, Choice.{ite, some_or, both}, Refusal.{met, unless}}
 use Rattle.messages.specs.{Area.{laid, laid_in, room_of}, Sends.{cast_below, cast_of, proceeds_to, messages_of, no_cast, no_sends}}
 use Rattle.tables.specs.{Form.{entry_ok, line_ok, hold_ok, quiet_ok, unknown_ok, history_ok}, Lines.{joined, leading, leaving, without}}
 use Rattle.tables.specs.Marks.{has_w, reaches_w, has_r, among, marks, enough, is_other, only_place}
@@ -22,11 +22,11 @@ use Rattle.steps.specs.Steps as step
 use Rattle.runs.specs.Runs as run
 use Rattle.runs.specs.Claims.{most_deliveries}
 use Rattle.claims.specs.Shown as shown
-use Rattle.claims.specs.Noted.{told, noted, values_of}
+use Rattle.claims.specs.Noted.{told, noted, start, lone, values_of}
 use Rattle.claims.proofs.Spared.{once_of, once_drained, once_in, after_in, entries_in, noted_in, spared_of, spared}
 
 basics-opened : Unit {0}
-unfolding ite both one_if all_below count_below list_below first_of
+unfolding ite some_or both one_if all_below count_below list_below met unless
 basics-opened = tt
 
 messages-opened : Unit {0}
@@ -46,11 +46,11 @@ unfolding with_channel fits_in post posts posted_all taken
 posting-opened = tt
 
 form-opened : Unit {0}
-unfolding form.fits form.is_panel form.at_writer form.place_with form.place_ok form.operation_ok form.in_form form.empty_line form.fresh
+unfolding form.fits form.is_panel form.at_writer form.place_with form.place_ok form.operation_ok form.idle form.in_form form.empty_line form.fresh
 form-opened = tt
 
 tests-opened : Unit {0}
-unfolding refusal.is_peer refusal.is_idle refusal.right_bit refusal.too_high refusal.stray refusal.line_full refusal.trials refusal.refusal
+unfolding refusal.is_peer refusal.right_bit refusal.too_high refusal.stray refusal.line_full refusal.trials
 tests-opened = tt
 
 trials-opened : Unit {0}
@@ -66,7 +66,7 @@ unfolding look_writing look_second look_first look_as look rule refused_by looke
 events-opened = tt
 
 panel-opened : Unit {0}
-unfolding panel.next_of panel.after panel.told panel.called panel.nothing panel.made
+unfolding panel.next_of panel.after panel.told panel.called panel.nothing panel.set_up_trials panel.made
 panel-opened = tt
 
 search-opened : Unit {0}
@@ -94,7 +94,7 @@ unfolding shown.value_held shown.held_at shown.sns_of shown.waiting_at shown.ope
 places-opened = tt
 
 spared-opened : Unit {0}
-unfolding values_of once_of once_drained once_in after_in entries_in noted_in spared_of spared
+unfolding start lone values_of once_of once_drained once_in after_in entries_in noted_in spared_of spared
 spared-opened = tt
 
 one-panel-opened : Unit {0}

@@ -2,18 +2,20 @@
 -- Assumes nothing.
 use Prim.Native.Nat.{ℕ, ◌-◌}
 use mathlib.Core.{Bool.{Bool, true, false, not}, List.{List, [], ◌∷◌, ◌++◌}, Logic.◌≢◌, Path.{◌≡◌, refl, sym, ap, subst, ◌∙◌}}
-use native.Mathlib.Omega.{arith}
 use lib.Dec.{eqb}
-use borrow.Author.Tests.{eqb-true, eqb-false, eq-eqb, ne_eqb, not-true, not-false}
-use Rattle.basics.{proofs.Choices.{ite-true, ite-false}, specs.Choice.ite, specs.Refusal.{Trial, refuse, first_of}}
-use Rattle.schedule.specs.declared.{Read.Read, Record.Record}
+use borrow.Author.Tests.{eqb-true, eqb-false, not-true, not-false}
+use Rattle.std.specs.Prelude.{Result, Ok, Err}
+use Rattle.basics.{proofs.Choices.{ite-true, ite-false}, proofs.Refusals.{first-not, number-some}, specs.Choice.ite}
+use Rattle.basics.specs.{Refusal.{Trial, refuse, first_of, number_of, code}, declared.refused.Refusal.Refusal}
+use Rattle.basics.specs.declared.refused.Refusal.TheVariants.{OutOfRange, UnknownKind, CutShort, SetUpMisplaced}
+use Rattle.schedule.specs.declared.{Record.Record, Taken.Taken, Unread.Unread}
 use Rattle.text.specs.declared.Line.{Line}
 use Rattle.form.specs.Form.{fits}
 use Rattle.promise.specs.View.{code_of}
 use Rattle.house.specs.declared.Network.{Network}
 use Rattle.steps.{proofs.AtStart.{set-up-taken, set-up-refused}, specs.SetUp.set_up, specs.declared.Stepped.Stepped}
-use Rattle.listing.specs.Entries.{entry, unread, told, stepped, entries, next, later, first, all}
-use Rattle.claims.specs.Tried.{Call, answer_of, trials_of, First}
+use Rattle.listing.specs.Entries.{entry, unread, told, stepped, entries, next, later, first_set_up, first, all}
+use Rattle.claims.specs.Tried.{Call, read_number, answer_of, trials_of, First}
 use Rattle.claims.proofs.{InOrder.answers, Trying.{first-of, tries, passes}}
 
 -- the answer on the first of some lines
@@ -28,60 +30,72 @@ call_of s r =
     (ite (eqb r.kind 2) (Call.read s r.a)
     (ite (eqb r.kind 7) (Call.lose s r.a) (Call.deliver s (r.kind - 3) r.a r.b)))
 
-unfoldable pub first_record_trials : Read → List Trial
+-- the record that was read; one that was not has its kind, and is zero else
+unfoldable pub record_in : Result Taken Unread → Record
+record_in (Ok t) = t.«record»
+record_in (Err u) = record { kind = u.kind; a = 0; b = 0; c = 0; value = 0 }
+
+unfoldable pub first_record_trials : Result Taken Unread → List Trial
 first_record_trials q =
-    refuse 15 (eqb q.refusal 15)
-    ∷ refuse 16 (eqb q.refusal 16)
-    ∷ refuse 17 (not (eqb q.«record».kind 0))
-    ∷ refuse 1 (not (fits q.«record».a q.«record».b q.«record».c))
+    let r : Record = record_in q in
+    refuse UnknownKind (eqb (read_number q) 15)
+    ∷ refuse CutShort (eqb (read_number q) 16)
+    ∷ refuse SetUpMisplaced (not (eqb r.kind 0))
+    ∷ refuse OutOfRange (not (fits r.a r.b r.c))
     ∷ []
 
-unfoldable pub later_record_trials : Network → Read → List Trial
+unfoldable pub later_record_trials : Network → Result Taken Unread → List Trial
 later_record_trials s q =
-    refuse 15 (eqb q.refusal 15)
-    ∷ refuse 16 (eqb q.refusal 16)
-    ∷ refuse 17 (eqb q.«record».kind 0)
-    ∷ trials_of (call_of s q.«record»)
+    let r : Record = record_in q in
+    refuse UnknownKind (eqb (read_number q) 15)
+    ∷ refuse CutShort (eqb (read_number q) 16)
+    ∷ refuse SetUpMisplaced (eqb r.kind 0)
+    ∷ trials_of (call_of s r)
 
 -- what reading answers (schedule/proofs/Laws refused-only)
-abbrev pub ReadOr : Read → Type 0
-ReadOr q = (q.refusal ≡ 15 → ⊥) → (q.refusal ≡ 16 → ⊥) → q.refusal ≡ 0
+abbrev pub ReadOr : Result Taken Unread → Type 0
+ReadOr q = (read_number q ≡ 15 → ⊥) → (read_number q ≡ 16 → ⊥) → read_number q ≡ 0
 
-module _ (q : Read) (qs : List Read) where
-  unread-head : q.refusal ≢ 0 → head_answer (all (q ∷ qs)) ≡ q.refusal
-  unfolding all head_answer unread
-  unread-head n = ap head_answer (ite-false _ _ (ne_eqb _ _ n))
+-- 15 and 16, and then the others
+abbrev read_trials : Result Taken Unread → List Trial → List Trial
+read_trials q ts = refuse UnknownKind (eqb (read_number q) 15) ∷ refuse CutShort (eqb (read_number q) 16) ∷ ts
 
-  read_head : q.refusal ≡ 0 → head_answer (all (q ∷ qs)) ≡ head_answer (first q.«record» qs)
-  unfolding all
-  read_head z = ap head_answer (ite-true _ _ (eq-eqb _ _ z))
+unread-first : (u : Unread) (ts : List Trial) → ReadOr (Err u) → number_of u.refusal ≡ first_of (read_trials (Err u) ts)
+unfolding read_number
+unread-first u ts h =
+    tries _ _ (λ e. eqb-true _ _ e) λ e15.
+    tries _ ts (λ e. eqb-true _ _ e) (λ e16. absurd (number-some u.refusal (h (eqb-false _ _ e15) (eqb-false _ _ e16))))
 
-module _ (r : Record) (qs : List Read) where
+taken-first : (t : Taken) (ts : List Trial) → first_of (read_trials (Ok t) ts) ≡ first_of ts
+unfolding read_number
+taken-first t ts = first-not _ _ refl ∙ first-not _ _ refl
+
+module _ (r : Record) (qs : List (Result Taken Unread)) where
   other-head : eqb r.kind 0 ≡ false → head_answer (first r qs) ≡ 17
   unfolding first head_answer entry
   other-head e = ap head_answer (ite-false _ _ e)
 
-  unfit-head : eqb r.kind 0 ≡ true → fits r.a r.b r.c ≡ false → head_answer (first r qs) ≡ 1
-  unfolding first head_answer entry
-  unfit-head e f =
-      let one : (set_up r.a r.b r.c r.value).refusal ≡ 1 = set-up-refused _ _ _ _ f in
-      ap head_answer (ite-true _ _ e ∙ ite-false _ _ (ne_eqb (set_up r.a r.b r.c r.value).refusal 0 (λ z. let k : ◌≡◌ {A = ℕ} 1 0 = sym one ∙ z in absurd (omega arith)))) ∙ one
+  of_set-up : (m : Result Network Refusal) → head_answer (first_set_up m r qs) ≡ code m
+  unfolding first_set_up head_answer entry
+  of_set-up (Ok s) = refl
+  of_set-up (Err x) = refl
 
-  fit-head : eqb r.kind 0 ≡ true → fits r.a r.b r.c ≡ true → head_answer (first r qs) ≡ 0
-  unfolding first head_answer entry
-  fit-head e f = ap head_answer (ite-true _ _ e ∙ ite-true _ _ (eq-eqb _ _ (set-up-taken _ _ _ _ f)))
+  set-up-head : {m : Result Network Refusal} → eqb r.kind 0 ≡ true → set_up r.a r.b r.c r.value ≡ m → head_answer (first r qs) ≡ code m
+  unfolding first
+  set-up-head {m} e f =
+      ap head_answer (ite-true _ _ e) ∙ ap (λ (x : Result Network Refusal). head_answer (first_set_up x r qs)) f ∙ of_set-up m
 
-first-answer : (q : Read) (qs : List Read) → ReadOr q → head_answer (all (q ∷ qs)) ≡ first_of (first_record_trials q)
-unfolding first_record_trials
-first-answer q qs h =
-    tries _ (λ e. let k : q.refusal ≡ 15 = eqb-true _ _ e in unread-head q qs (λ z. absurd (omega (arith, k, z))) ∙ k) λ e15.
-    tries _ (λ e. let k : q.refusal ≡ 16 = eqb-true _ _ e in unread-head q qs (λ z. absurd (omega (arith, k, z))) ∙ k) λ e16.
-    let z : q.refusal ≡ 0 = h (eqb-false _ _ e15) (eqb-false _ _ e16) in
-    tries _ (λ e. read_head q qs z ∙ other-head _ qs (not-true _ e)) λ e.
-    tries [] (λ f. read_head q qs z ∙ unfit-head _ qs (not-false _ e) (not-true _ f))
-    (λ f. passes (read_head q qs z ∙ fit-head _ qs (not-false _ e) (not-false _ f)))
+first-answer : (q : Result Taken Unread) (qs : List (Result Taken Unread)) → ReadOr q → head_answer (all (q ∷ qs)) ≡ first_of (first_record_trials q)
+unfolding first_record_trials record_in all head_answer unread
+first-answer (Err u) qs h = unread-first u _ h
+first-answer (Ok t) qs h =
+    tries _ _ (λ e. other-head _ qs (not-true _ e))
+    (λ e. tries _ [] (λ f. set-up-head _ qs (not-false _ e) (set-up-refused _ _ _ _ (not-true _ f)))
+    (λ f. passes (set-up-head _ qs (not-false _ e) (set-up-taken _ _ _ _ (not-false _ f)))))
+    ∙ sym (taken-first t _)
 
-pub first-record-in-order : (q : Read) (qs : List Read) → ReadOr q → First (first_record_trials q) (head_answer (all (q ∷ qs)))
+pub first-record-in-order :
+    (q : Result Taken Unread) (qs : List (Result Taken Unread)) → ReadOr q → First (first_record_trials q) (head_answer (all (q ∷ qs)))
 first-record-in-order q qs h = subst (First (first_record_trials q)) (sym (first-answer q qs h)) (first-of (first_record_trials q))
 
 -- ---- after the set-up
@@ -100,37 +114,27 @@ step-answer s r =
     (pick (eqb r.kind 2) _ _ (Call.read s r.a) _ refl
     (pick (eqb r.kind 7) _ _ (Call.lose s r.a) (Call.deliver s (r.kind - 3) r.a r.b) refl refl))
 
-module _ (s : Network) (q : Read) (qs : List Read) where
-  unread-later : q.refusal ≢ 0 → head_answer (later s (q ∷ qs)) ≡ q.refusal
-  unfolding later head_answer unread
-  unread-later n = ap head_answer (ite-false _ _ (ne_eqb _ _ n))
-
-  abbrev rest : List Line
-  rest = later (next s q.«record») qs
-
-  read-later : q.refusal ≡ 0 → head_answer (later s (q ∷ qs)) ≡ head_answer (entries s q.«record» ++ rest)
-  unfolding later
-  read-later z = ap head_answer (ite-true _ _ (eq-eqb _ _ z))
-
-  set-up-later : q.refusal ≡ 0 → eqb q.«record».kind 0 ≡ true → head_answer (later s (q ∷ qs)) ≡ 17
+module _ (s : Network) (r : Record) (rest : List Line) where
+  set-up-later : eqb r.kind 0 ≡ true → head_answer (entries s r ++ rest) ≡ 17
   unfolding entries head_answer entry
-  set-up-later z e = read-later z ∙ ap (λ (xs : List Line). head_answer (xs ++ rest)) (ite-true _ _ e)
+  set-up-later e = ap (λ (xs : List Line). head_answer (xs ++ rest)) (ite-true _ _ e)
 
-  step-later :
-      q.refusal ≡ 0 → eqb q.«record».kind 0 ≡ false → eqb q.«record».kind 8 ≡ false →
-      head_answer (later s (q ∷ qs)) ≡ code_of (stepped s q.«record»).answer
+  step-later : eqb r.kind 0 ≡ false → eqb r.kind 8 ≡ false → head_answer (entries s r ++ rest) ≡ code_of (stepped s r).answer
   unfolding entries head_answer entry told
-  step-later z e f = read-later z ∙ ap (λ (xs : List Line). head_answer (xs ++ rest)) (ite-false _ _ e ∙ ite-false _ _ f)
+  step-later e f = ap (λ (xs : List Line). head_answer (xs ++ rest)) (ite-false _ _ e ∙ ite-false _ _ f)
 
-  later-answer : ReadOr q → eqb q.«record».kind 8 ≡ false → head_answer (later s (q ∷ qs)) ≡ first_of (later_record_trials s q)
-  unfolding later_record_trials
-  later-answer h f =
-      tries _ (λ e. let k : q.refusal ≡ 15 = eqb-true _ _ e in unread-later (λ z. absurd (omega (arith, k, z))) ∙ k) λ e15.
-      tries _ (λ e. let k : q.refusal ≡ 16 = eqb-true _ _ e in unread-later (λ z. absurd (omega (arith, k, z))) ∙ k) λ e16.
-      let z : q.refusal ≡ 0 = h (eqb-false _ _ e15) (eqb-false _ _ e16) in
-      tries _ (λ e. set-up-later z e)
-      (λ e. step-later z e f ∙ step-answer s q.«record» ∙ answers (call_of s q.«record»))
+module _ (s : Network) where
+  later-answer :
+      (q : Result Taken Unread) (qs : List (Result Taken Unread)) → ReadOr q → eqb (record_in q).kind 8 ≡ false →
+      head_answer (later s (q ∷ qs)) ≡ first_of (later_record_trials s q)
+  unfolding later_record_trials record_in later head_answer unread
+  later-answer (Err u) qs h f = unread-first u _ h
+  later-answer (Ok t) qs h f =
+      tries _ _ (λ e. set-up-later s t.«record» _ e)
+      (λ e. step-later s t.«record» _ e f ∙ step-answer s t.«record» ∙ answers (call_of s t.«record»))
+      ∙ sym (taken-first t _)
 
   pub later-record-in-order :
-      ReadOr q → eqb q.«record».kind 8 ≡ false → First (later_record_trials s q) (head_answer (later s (q ∷ qs)))
-  later-record-in-order h f = subst (First (later_record_trials s q)) (sym (later-answer h f)) (first-of (later_record_trials s q))
+      (q : Result Taken Unread) (qs : List (Result Taken Unread)) → ReadOr q → eqb (record_in q).kind 8 ≡ false →
+      First (later_record_trials s q) (head_answer (later s (q ∷ qs)))
+  later-record-in-order q qs h f = subst (First (later_record_trials s q)) (sym (later-answer q qs h f)) (first-of (later_record_trials s q))

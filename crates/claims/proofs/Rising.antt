@@ -4,7 +4,7 @@ use Prim.Native.Nat.{ℕ, ◌-◌}
 use mathlib.Core.{Bool.{Bool, true}, List.{List, [], ◌∷◌}, Path.{◌≡◌, refl}}
 use lib.Dec.{ltb}
 use borrow.Author.Tests.{ltb-true}
-use Rattle.basics.{proofs.Choices.{both_left, both_right}, specs.Choice.{ite, both}, specs.Refusal.Trial}
+use Rattle.basics.{proofs.Choices.{both_left, both_right}, specs.Choice.{ite, both}, specs.Refusal.{Trial, number_of}}
 use Rattle.messages.specs.Area.{room_of}
 use Rattle.form.specs.declared.Tables.{Tables}
 use Rattle.refusals.specs.Refusals.{Event, first_trials, peer_trials, write_from_trials, read_from_trials, proceed_from_trials, trials}
@@ -17,12 +17,12 @@ use Rattle.claims.specs.Tried.{Call, above, step_trials, without, item_trials, t
 
 rises : ℕ → List Trial → Bool
 rises low [] = true
-rises low (t ∷ ts) = both (ltb low t.number) (rises t.number ts)
+rises low (t ∷ ts) = both (ltb low (number_of t.refusal)) (rises (number_of t.refusal) ts)
 
 rises-so : (low : ℕ) (ts : List Trial) → rises low ts ≡ true → Rising low ts
 unfolding rises
 rises-so low [] e = tt
-rises-so low (t ∷ ts) e = (ltb-true _ _ (both_left _ _ e), rises-so t.number ts (both_right _ _ e))
+rises-so low (t ∷ ts) e = (ltb-true _ _ (both_left _ _ e), rises-so (number_of t.refusal) ts (both_right _ _ e))
 
 event-rises : (p : Tables) (room : ℕ) (e : Event) → rises 0 (trials p room e) ≡ true
 unfolding rises both trials refusals.write_trials refusals.read_trials write_from_trials read_from_trials proceed_from_trials peer_trials first_trials

@@ -2,16 +2,18 @@
 -- the time.
 -- Assumes nothing.
 use Prim.Native.Nat.{ℕ}
-use mathlib.Core.{Bool.true, List.{List, [], ◌∷◌, ◌++◌}, Path.{◌≡◌, refl, ap, ap₂, ◌∙◌}}
+use mathlib.Core.{Bool.true, List.{List, [], ◌∷◌, ◌++◌}, Path.{◌≡◌, refl, sym, ap, ap₂, subst, ◌∙◌}}
+use Rattle.std.specs.{Prelude.Result, Result.result_unwrap_or}
+use Rattle.basics.specs.declared.refused.Refusal.{Refusal}
 use Rattle.basics.{proofs.Choices.{ite-true, ite-case}, specs.Choice.ite}
 use Rattle.form.specs.Form.{fits}
 use Rattle.house.specs.{NetForm.net_form, declared.Network.Network}
-use Rattle.steps.{proofs.Networks.good-test, proofs.Settling.checked-in-form, specs.Drain.{drain_in, drained}}
-use Rattle.steps.specs.{SetUp.{set_up, fresh_network}, Steps.{write_in, read_in, deliver_in, lose_in}, declared.Drained.Drained}
+use Rattle.steps.{proofs.AtStart.set-up-taken, proofs.Networks.good-test, proofs.Settling.checked-in-form, specs.Drain.{drain_in, drained}}
+use Rattle.steps.specs.{SetUp.{fresh_network}, Steps.{write_in, read_in, deliver_in, lose_in}, declared.Drained.Drained}
 use Rattle.steps.specs.declared.Stepped.{Stepped}
 use Rattle.runs.proofs.{FromFresh.start-holds, Holding.Holds, Running.{step-fares, run_holds}}
 use Rattle.runs.specs.Runs.{Step, Did, did, emptied, does, after, Entry, entries, Step.{write, read, deliver, lose, drain}}
-use Rattle.claims.specs.Noted.{Note, told, noted, Case, values_of, values, Case.{setting_up, network, panel}}
+use Rattle.claims.specs.Noted.{Note, told, noted, Case, start, values_of, values, Case.{setting_up, network, panel}}
 use Rattle.claims.specs.Noted.Note.{made, said, flying, held, waiting, doing, lines}
 use Rattle.claims.specs.Shown.{answered, counted, flying_from, held_at, waiting_at, doing_at, drain_lines}
 
@@ -26,7 +28,7 @@ unfoldable pub once_of : Stepped → ℕ → Once
 once_of a d = record { told = answered a.answer; did = did a d }
 
 unfoldable pub once_drained : Drained → Once
-once_drained a = record { told = counted a; did = emptied a }
+once_drained a = record { told = counted a.answer; did = emptied a }
 
 unfoldable pub once_in : Network → Step → Once
 once_in s (write v) = once_of (write_in s v) 0
@@ -109,19 +111,25 @@ noted-spared s h (lines m ∷ ns) = ap (λ (xs : List (List ℕ)). drain_lines m
 unfoldable pub spared_of : Case → List (List ℕ)
 spared_of (setting_up n t writer) = values_of (setting_up n t writer)
 spared_of (network n t writer ns) =
-    ite (fits n t writer) (noted_in (set_up n t writer 700).network ns) (noted (set_up n t writer 700).network ns)
+    ite (fits n t writer) (noted_in (start n t writer) ns) (noted (start n t writer) ns)
 spared_of (panel n t writer i e) = values_of (panel n t writer i e)
 
 unfoldable pub spared : List Case → List (List ℕ)
 spared [] = []
 spared (c ∷ cs) = spared_of c ++ spared cs
 
+start-kept : (n t writer : ℕ) → fits n t writer ≡ true → Holds (start n t writer)
+unfolding start
+start-kept n t writer ok =
+    subst Holds (ap (λ (m : Result Network Refusal). result_unwrap_or m (fresh_network 0 0 0 0)) (sym (set-up-taken n t writer 700 ok)))
+    (start-holds n t writer 700 ok)
+
 of-spared : (c : Case) → values_of c ≡ spared_of c
-unfolding values_of spared_of set_up
+unfolding values_of spared_of
 of-spared (setting_up n t writer) = refl
 of-spared (network n t writer ns) =
-    ite-case (λ (xs : List (List ℕ)). noted (fresh_network n t writer 700) ns ≡ xs) (fits n t writer) _ _
-    (λ ok. noted-spared (fresh_network n t writer 700) (start-holds n t writer 700 ok) ns) (λ _. refl)
+    ite-case (λ (xs : List (List ℕ)). noted (start n t writer) ns ≡ xs) (fits n t writer) _ _
+    (λ ok. noted-spared (start n t writer) (start-kept n t writer ok) ns) (λ _. refl)
 of-spared (panel n t writer i e) = refl
 
 pub values-spared : (cs : List Case) → values cs ≡ spared cs

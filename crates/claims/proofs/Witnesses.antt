@@ -15,7 +15,7 @@ use Rattle.channels.specs.declared.Channel.{Channel}
 use Rattle.house.specs.{Places.{row_at, with_panel, with_row, with_down}, declared.Network.Network}
 use Rattle.steps.specs.SetUp.{fresh_network}
 use Rattle.runs.{proofs.FromFresh.start-holds, specs.Runs.{Step, entries}, specs.Runs.Step.{write, read, lose, drain}}
-use Rattle.claims.specs.Noted.{WRITE0, WRITE1, READ, PROCEED, Note, Case, told, noted, values, Case.{setting_up, network, panel}}
+use Rattle.claims.specs.Noted.{WRITE0, WRITE1, READ, PROCEED, Note, Case, told, noted, lone, values, Case.{setting_up, network, panel}}
 use Rattle.claims.specs.{Noted.Note.{made, said, flying, held, waiting, doing, lines}, Shown.{answered, totals}}
 use Rattle.claims.proofs.{Opened.{opened, opened-whole}, Spared.{entries-spared, values-spared}}
 
@@ -267,7 +267,7 @@ area : ℕ → Area
 area m = record { receivers = replicate m 0; kinds = replicate m 0; values = replicate m 0 }
 
 written-with : ℕ → List ℕ
-written-with m = answered (calls.called (calls.made 3 1 1 1 700).panel (write_event 650) (area m)).outcome.answer
+written-with m = answered (calls.called (lone 3 1 1 1) (write_event 650) (area m)).outcome.answer
 
 refused-area : written-with 107 ∷ written-with 106 ∷ [] ≡ (1 ∷ []) ∷ (0 ∷ 3 ∷ []) ∷ []
 unfolding opened area written-with

@@ -1,14 +1,14 @@
 -- What an accepted step of a network does, step by step; a drain in the words of the other calls; and the numbers that each step meets.
 -- Assumes nothing.
-use Rattle.std.specs.Prelude.{ℕ, ◌+◌, ◌-◌}
-use mathlib.Core.{Bool.{true, false}, List.{List, [], ◌∷◌}, Logic.◌≢◌, Path.◌≡◌}
+use Rattle.std.specs.Prelude.{ℕ, ◌+◌, ◌-◌, Ok, Err, Some, None}
+use mathlib.Core.{List.{List, [], ◌∷◌}, Path.◌≡◌}
+use Rattle.basics.specs.declared.refused.Refusal.{Refusal}
 use Rattle.refusals.specs.Refusals.{Event}
-use Rattle.events.specs.declared.Answer.TheVariants.{Nothing}
 use Rattle.panel.specs.{Calls.after, declared.Next.Next}
 use Rattle.promise.specs.View.{code_of}
 use Rattle.channels.specs.Posting.{posted_all}
-use Rattle.house.specs.{Places.{panel_at, row_at, writer_of, with_panel, with_row, with_down}, Search.first_in, declared.Network.Network}
-use Rattle.steps.specs.{Drain.{drained_to, drained}, Moves.{arriving, Deliveries}, Search.sought, Steps.{written, begun, delivered, lost}}
+use Rattle.house.specs.{Places.{panel_at, row_at, writer_of, with_panel, with_row, with_down}, Search.first_in, declared.InFlight.InFlight, declared.Network.Network}
+use Rattle.steps.specs.{Drain.{drained_to, refused_as, counted, drained}, Moves.{arriving, Deliveries}, Search.sought, Steps.{written, begun, delivered, lost}}
 use Rattle.steps.specs.declared.Stepped.{Stepped}
 use Rattle.runs.specs.Runs.{Step, Step.{write, read, deliver, lose, drain}}
 use Rattle.claims.specs.Tried.{without}
@@ -23,35 +23,35 @@ acted s i e =
 
 -- a drain that is not refused: it made as many deliveries as it counts, and nothing is left in flight to a live panel
 pub record Emptied (s : Network) : Type 0 where
-  pub deliveries : Deliveries (drained s).count s (drained s).network
-  pub still : (first_in (drained s).network).any ≡ false
+  pub deliveries : Deliveries (counted (drained s).answer) s (drained s).network
+  pub still : first_in (drained s).network ≡ None
 
 unfoldable pub Acts : Network → Step → Type 0
 Acts s (write v) = written s v ≡ acted s (writer_of s - 1) (Event.write v)
 Acts s (read i) = begun s i ≡ acted s (i - 1) Event.read
 -- "A delivery takes one message out of the channel and runs the event"
 Acts s (deliver k i j) = delivered s k i j ≡ acted (without s k i j) (j - 1) (arriving s k i j)
-Acts s (lose i) = lost s i ≡ record { network = with_down s (i - 1); answer = Nothing }
+Acts s (lose i) = lost s i ≡ record { network = with_down s (i - 1); answer = Ok None }
 Acts s drain = Emptied s
 
 -- ---- a drain in the words of the calls: search, delivery, and the drain of what that comes to
 
 -- the delivery of what the search finds
-abbrev pub next : Network → Stepped
-next s = delivered s (sought s).found.kind (sought s).found.sender (sought s).found.receiver
+abbrev pub next : Network → InFlight → Stepped
+next s x = delivered s x.kind x.sender x.receiver
 
 pub record ByDeliveries (s : Network) : Type 0 where
   -- nothing is found: it ends
-  pub ends : (sought s).found.any ≡ false → drained s ≡ drained_to s 0 0
+  pub ends : sought s ≡ Ok None → drained s ≡ drained_to s 0
   -- the delivery is refused, or the drain after it: "the whole drain is refused with that number"
-  pub refused : (sought s).found.any ≡ true → code_of (next s).answer ≢ 0 → drained s ≡ drained_to s (code_of (next s).answer) 0
+  pub refused : (x : InFlight) → sought s ≡ Ok (Some x) → (r : Refusal) → (next s x).answer ≡ Err r → drained s ≡ refused_as s r
   pub refused_later :
-      (sought s).found.any ≡ true → code_of (next s).answer ≡ 0 → (drained (next s).network).refusal ≢ 0 →
-      drained s ≡ drained_to s (drained (next s).network).refusal 0
+      (x : InFlight) → sought s ≡ Ok (Some x) → (r : Refusal) → code_of (next s x).answer ≡ 0 → (drained (next s x).network).answer ≡ Err r →
+      drained s ≡ refused_as s r
   -- neither: one delivery more
   pub going_on :
-      (sought s).found.any ≡ true → code_of (next s).answer ≡ 0 → (drained (next s).network).refusal ≡ 0 →
-      drained s ≡ drained_to (drained (next s).network).network 0 ((drained (next s).network).count + 1)
+      (x : InFlight) → sought s ≡ Ok (Some x) → (m : ℕ) → code_of (next s x).answer ≡ 0 → (drained (next s x).network).answer ≡ Ok m →
+      drained s ≡ drained_to (drained (next s x).network).network (m + 1)
 
 -- ---- the numbers that a step of a network in form meets, 0 for none
 

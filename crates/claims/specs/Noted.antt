@@ -1,11 +1,13 @@
 -- Cases: a set-up, an event at a lone panel, or a run of a fresh network of which something is noted on the way; and their values, the
 -- definitions' own. The initial value is 700.
 -- Assumes nothing.
-use Rattle.std.specs.Prelude.{ℕ, List, [], ◌∷◌, ◌++◌}
+use Rattle.std.specs.{Prelude.{ℕ, List, [], ◌∷◌, ◌++◌}, Result.result_unwrap_or}
+use Rattle.basics.specs.Refusal.{code}
 use Rattle.refusals.specs.Refusals.{Event}
 use Rattle.panel.specs.Calls as calls
+use Rattle.panel.specs.declared.Panel.{Panel}
 use Rattle.house.specs.declared.Network.{Network}
-use Rattle.steps.specs.{Drain.drained, SetUp.set_up, Steps.{written, begun, delivered, lost}}
+use Rattle.steps.specs.{Drain.drained, SetUp.{fresh_network, set_up}, Steps.{written, begun, delivered, lost}}
 use Rattle.runs.specs.Runs.{Step, does, after, Step.{write, read, deliver, lose, drain}}
 use Rattle.claims.specs.Shown.{answered, counted, flying_from, held_at, waiting_at, doing_at, drain_lines}
 
@@ -47,7 +49,7 @@ told s (write v) = answered (written s v).answer
 told s (read i) = answered (begun s i).answer
 told s (deliver k i j) = answered (delivered s k i j).answer
 told s (lose i) = answered (lost s i).answer
-told s drain = counted (drained s)
+told s drain = counted (drained s).answer
 
 unfoldable pub noted : Network → List Note → List (List ℕ)
 noted s [] = []
@@ -67,11 +69,19 @@ pub data Case : Type 0 where
   -- a fresh panel by its number, and an event
   panel : ℕ → ℕ → ℕ → ℕ → Event → Case
 
+-- the network that set-up makes; one of zeros where it makes none
+unfoldable pub start : ℕ → ℕ → ℕ → Network
+start n t writer = result_unwrap_or (set_up n t writer 700) (fresh_network 0 0 0 0)
+
+-- and the panel likewise
+unfoldable pub lone : ℕ → ℕ → ℕ → ℕ → Panel
+lone n t writer i = result_unwrap_or (calls.made n t writer i 700) calls.nothing
+
 -- a set-up's refusal, 0 for none; what is noted; the panel's answer
 unfoldable pub values_of : Case → List (List ℕ)
-values_of (setting_up n t writer) = ((set_up n t writer 700).refusal ∷ []) ∷ []
-values_of (network n t writer ns) = noted (set_up n t writer 700).network ns
-values_of (panel n t writer i e) = answered (calls.after (calls.made n t writer i 700).panel e).answer ∷ []
+values_of (setting_up n t writer) = (code (set_up n t writer 700) ∷ []) ∷ []
+values_of (network n t writer ns) = noted (start n t writer) ns
+values_of (panel n t writer i e) = answered (calls.after (lone n t writer i) e).answer ∷ []
 
 unfoldable pub values : List Case → List (List ℕ)
 values [] = []

@@ -1,27 +1,28 @@
 -- Answers and networks in numbers, for claims that compute. Panels go by their numbers; kinds are those of the wire.
 -- Assumes nothing.
-use Rattle.std.specs.Prelude.{ℕ, zero, suc, ◌+◌, ◌-◌, List, [], ◌∷◌, ◌++◌, map, eqb}
-use Rattle.basics.specs.{Below.list_below, Choice.ite}
+use Rattle.std.specs.Prelude.{ℕ, zero, suc, ◌+◌, ◌-◌, List, [], ◌∷◌, ◌++◌, map, Option, Result, Ok, Err, Some, None}
+use Rattle.basics.specs.{Below.list_below, Choice.{ite, some_or}, Refusal.number_of, declared.refused.Refusal.Refusal}
 use Rattle.tables.specs.{Places.{w_at, hold_at, line_at}, declared.Hold.Hold, declared.Line.Line}
 use Rattle.form.specs.declared.Operation.{Operation, TheVariants.{Idle, Writing, FirstWait, SecondWait}}
-use Rattle.events.specs.declared.Answer.{Answer, TheVariants.{Refused, Nothing, Wrote, Gave}}
+use Rattle.events.specs.{Events.Answer, declared.Finished.TheVariants.{Wrote, Gave}}
 use Rattle.channels.specs.{Channels.{in_flight, value_in}, declared.Channel.Channel}
-use Rattle.house.specs.{Places.{tables_at, channel_of}, Search.first_in, declared.Found.Found, declared.Network.Network}
-use Rattle.steps.specs.{Drain.next_in, declared.Drained.Drained}
+use Rattle.house.specs.{Places.{tables_at, channel_of}, Search.first_in, declared.InFlight.InFlight, declared.Network.Network}
+use Rattle.steps.specs.Drain.{next_in}
 use Rattle.runs.specs.{Claims.most_deliveries, Runs.{Entry, writes, reads, deliveries}}
 
 -- ---- answers
 
 -- 0 and a refusal's number; 1 for nothing; 2 and the number written; 3, the number and the value read
 unfoldable pub answered : Answer → List ℕ
-answered (Refused k) = 0 ∷ k ∷ []
-answered Nothing = 1 ∷ []
-answered (Wrote x) = 2 ∷ x.0 ∷ []
-answered (Gave x v) = 3 ∷ x.0 ∷ v ∷ []
+answered (Err r) = 0 ∷ number_of r ∷ []
+answered (Ok None) = 1 ∷ []
+answered (Ok (Some (Wrote x))) = 2 ∷ x.0 ∷ []
+answered (Ok (Some (Gave x v))) = 3 ∷ x.0 ∷ v ∷ []
 
 -- of a drain: 0 and a refusal's number, or 4 and its count
-unfoldable pub counted : Drained → List ℕ
-counted d = ite (eqb d.refusal 0) (4 ∷ d.count ∷ []) (0 ∷ d.refusal ∷ [])
+unfoldable pub counted : Result ℕ Refusal → List ℕ
+counted (Err r) = 0 ∷ number_of r ∷ []
+counted (Ok m) = 4 ∷ m ∷ []
 
 -- ---- in flight
 
@@ -74,13 +75,14 @@ doing_at s i = operation (tables_at s (i - 1)).operation
 -- ---- a drain, line by line
 
 -- the message that a drain delivers next, by kind, sender and receiver, and the answer to it
-unfoldable pub line_of : Network → Found → List ℕ
-line_of s f = ite f.any (f.kind ∷ f.sender ∷ f.receiver ∷ answered (next_in s).answer) []
+unfoldable pub line_of : Network → Option InFlight → List ℕ
+line_of s None = []
+line_of s (Some x) = x.kind ∷ x.sender ∷ x.receiver ∷ answered (next_in s x).answer
 
 -- the first m
 unfoldable pub drain_lines : ℕ → Network → List (List ℕ)
 drain_lines zero s = []
-drain_lines (suc m) s = line_of s (first_in s) ∷ drain_lines m (next_in s).network
+drain_lines (suc m) s = line_of s (first_in s) ∷ drain_lines m (some_or (first_in s) (λ (x : InFlight). (next_in s x).network) s)
 
 -- ---- a whole run of n panels: each step's refusal, 0 for none; each step's deliveries; all deliveries, and the most that there can be
 

@@ -2,16 +2,15 @@
 -- Not here: a drain, which tries 2 and then what its deliveries try (specs/Acts); the calls of `edges`, which are the panel's over another
 -- area, and those of `reader`, which read at the place that it keeps.
 -- Assumes nothing.
-use Rattle.std.specs.Prelude.{ℕ, ◌+◌, ◌-◌, ◌<◌}
+use Rattle.std.specs.Prelude.{ℕ, ◌+◌, ◌-◌, ◌<◌, Result, Ok, Err}
 use mathlib.Core.{Bool.{true, false, not}, List.{List, [], ◌∷◌, ◌++◌}, Path.◌≡◌}
 use lib.{Dec.{leb, ltb}, ListN.{length, get_or}}
-use Rattle.basics.specs.{Choice.{ite, both}, Refusal.{Trial, refuse}}
+use Rattle.basics.specs.{Choice.{ite, both}, Refusal.{Trial, refuse, number_of, code}}
+use Rattle.basics.specs.declared.refused.Refusal.TheVariants.{OutOfRange, NotInForm, AreaTooShort, NoSuchPanel, ChannelFull, UnknownKind, CutShort}
 use Rattle.codec.specs.Items.{Format, size_of}
-use Rattle.wire.specs.{Messages.{wire, sendable}, declared.Put.Put, declared.Taken.Taken}
-use Rattle.wire.specs.declared.Taken.TheVariants as Read
-use Rattle.wire.specs.declared.Put.TheVariants as Wrote
+use Rattle.wire.specs.Messages.{wire, sendable}
 use Rattle.wire.specs.Messages as wires
-use Rattle.schedule.specs.{Records.{records, writable}, declared.Record.Record}
+use Rattle.schedule.specs.{Records.{records, writable}, declared.{Record.Record, Taken.Taken, Unread.Unread}}
 use Rattle.schedule.specs.Records as schedules
 use Rattle.messages.specs.{Area.{Area, room_of}, Sends.messages_of}
 use Rattle.form.specs.Form.{fits, is_panel}
@@ -46,43 +45,40 @@ pub data Call : Type 0 where
 
 -- ---- what a call answers: 0 where it acts, else the refusal's number
 
-unfoldable pub read_number : Taken → ℕ
-read_number (Read.Message k v n) = 0
-read_number (Read.Refused r) = r
-
-unfoldable pub wrote_number : Put → ℕ
-wrote_number (Wrote.Used n) = 0
-wrote_number (Wrote.Refused r) = r
+-- of a record that was read
+unfoldable pub read_number : Result Taken Unread → ℕ
+read_number (Ok t) = 0
+read_number (Err u) = number_of u.refusal
 
 unfoldable pub answer_of : Call → ℕ
-answer_of (set_up_panel n t writer i v) = (made n t writer i v).refusal
+answer_of (set_up_panel n t writer i v) = code (made n t writer i v)
 answer_of (event p e a) = code_of (called p e a).outcome.answer
 answer_of (event_bare p e) = code_of (after p e).answer
-answer_of (setting_up n t writer v) = (set_up n t writer v).refusal
+answer_of (setting_up n t writer v) = code (set_up n t writer v)
 answer_of (write s v) = code_of (written s v).answer
 answer_of (read s i) = code_of (begun s i).answer
 answer_of (deliver s k i j) = code_of (delivered s k i j).answer
 answer_of (lose s i) = code_of (lost s i).answer
-answer_of (search s) = (sought s).refusal
-answer_of (write_message k v area) = wrote_number (wires.writing k v area).answer
-answer_of (read_message s) = read_number (wires.reading s)
-answer_of (write_record r area) = (schedules.writing r area).answer.refusal
-answer_of (read_record s at) = (schedules.reading s at).refusal
-answer_of (list s area) = (listing s area).answer.refusal
+answer_of (search s) = code (sought s)
+answer_of (write_message k v area) = code (wires.writing k v area).answer
+answer_of (read_message s) = code (wires.reading s)
+answer_of (write_record r area) = code (schedules.writing r area).answer
+answer_of (read_record s at) = read_number (schedules.reading s at)
+answer_of (list s area) = code (listing s area).answer
 
 -- ---- what a call tries, in order
 
 -- the trials whose number is above k
 unfoldable pub above : ℕ → List Trial → List Trial
 above k [] = []
-above k (t ∷ ts) = ite (ltb k t.number) (t ∷ above k ts) (above k ts)
+above k (t ∷ ts) = ite (ltb k (number_of t.refusal)) (t ∷ above k ts) (above k ts)
 
 -- 2, then the step's own trials; then those of the event at the panel in place i (its 2, 3, 4 and 6 are settled by then); and at last 14,
 -- room in the channels of s₁ for what the panel sends
 unfoldable pub step_trials : Network → List Trial → Network → ℕ → Event → List Trial
 step_trials s own s₁ i e =
-    refuse 2 (not (net_form s))
-    ∷ own ++ (above 6 (trials (tables_at s i) 107 e) ++ (refuse 14 (not (posted_all (row_at s₁ i) (after (panel_at s i) e).sends).fits) ∷ []))
+    refuse NotInForm (not (net_form s))
+    ∷ own ++ (above 6 (trials (tables_at s i) 107 e) ++ (refuse ChannelFull (not (posted_all (row_at s₁ i) (after (panel_at s i) e).sends).fits) ∷ []))
 
 -- the network without the message that is delivered
 abbrev pub without : Network → ℕ → ℕ → ℕ → Network
@@ -91,16 +87,16 @@ without s k i j = with_row s (i - 1) (taken (row_at s (i - 1)) (j - 1) k)
 -- an item read at a place: "unknown kind byte"; "no byte, or body cut short"
 unfoldable pub item_trials : Format → List ℕ → ℕ → List Trial
 item_trials f s at =
-    refuse 15 (both (ltb at (length s)) (not (f.known (get_or s at 0))))
-    ∷ refuse 16 (ite (leb (length s) at) true (ltb (length s) (at + size_of f (get_or s at 0))))
+    refuse UnknownKind (both (ltb at (length s)) (not (f.known (get_or s at 0))))
+    ∷ refuse CutShort (ite (leb (length s) at) true (ltb (length s) (at + size_of f (get_or s at 0))))
     ∷ []
 
 unfoldable pub trials_of : Call → List Trial
-trials_of (set_up_panel n t writer i v) = refuse 1 (not (fits n t writer)) ∷ refuse 4 (not (is_panel n i)) ∷ []
+trials_of (set_up_panel n t writer i v) = refuse OutOfRange (not (fits n t writer)) ∷ refuse NoSuchPanel (not (is_panel n i)) ∷ []
 -- 2, 3; then by the event: 6, 7, 8 (write), 7, 8 (read), 4 and 11 (WRITE), 4 and 13 (READ), 4 and 12 (PROCEED)
 trials_of (event p e a) = trials p.tables (room_of a) e
 trials_of (event_bare p e) = trials p.tables 107 e
-trials_of (setting_up n t writer v) = refuse 1 (not (fits n t writer)) ∷ []
+trials_of (setting_up n t writer v) = refuse OutOfRange (not (fits n t writer)) ∷ []
 -- 2, 5, 7, 8, 14
 trials_of (write s v) = step_trials s (write_trials s) s (writer_of s - 1) (Event.write v)
 -- 2, 4, 5, 7, 8, 14
@@ -108,26 +104,26 @@ trials_of (read s i) = step_trials s (read_trials s i) s (i - 1) Event.read
 -- 2, 4, 5, 9; 11, 12 or 13 by kind; 14
 trials_of (deliver s k i j) = step_trials s (deliver_trials s k i j) (without s k i j) (j - 1) (arriving s k i j)
 -- 2, 4, 5, 10
-trials_of (lose s i) = refuse 2 (not (net_form s)) ∷ lose_trials s i
-trials_of (search s) = refuse 2 (not (net_form s)) ∷ []
-trials_of (write_message k v area) = refuse 3 (ltb (length area) (size_of wire k)) ∷ refuse 15 (not (sendable k v)) ∷ []
+trials_of (lose s i) = refuse NotInForm (not (net_form s)) ∷ lose_trials s i
+trials_of (search s) = refuse NotInForm (not (net_form s)) ∷ []
+trials_of (write_message k v area) = refuse AreaTooShort (ltb (length area) (size_of wire k)) ∷ refuse UnknownKind (not (sendable k v)) ∷ []
 trials_of (read_message s) = item_trials wire s 0
-trials_of (write_record r area) = refuse 3 (ltb (length area) (size_of records r.kind)) ∷ refuse 15 (not (writable r)) ∷ []
+trials_of (write_record r area) = refuse AreaTooShort (ltb (length area) (size_of records r.kind)) ∷ refuse UnknownKind (not (writable r)) ∷ []
 trials_of (read_record s at) = item_trials records s at
-trials_of (list s area) = refuse 3 (ltb (length area) longest) ∷ []
+trials_of (list s area) = refuse AreaTooShort (ltb (length area) longest) ∷ []
 
 -- ---- what is said of them
 
 -- k is the number of the first trial that applies, and 0 where none does
 pub data First : List Trial → ℕ → Type 0 where
   none : First [] 0
-  here : {t : Trial} {ts : List Trial} → t.given ≡ true → First (t ∷ ts) t.number
+  here : {t : Trial} {ts : List Trial} → t.given ≡ true → First (t ∷ ts) (number_of t.refusal)
   later : {t : Trial} {ts : List Trial} {k : ℕ} → t.given ≡ false → First ts k → First (t ∷ ts) k
 
 -- the numbers rise from low on
 abbrev pub Rising : ℕ → List Trial → Type 0
 Rising low [] = Unit {0}
-Rising low (t ∷ ts) = (low < t.number) × Rising t.number ts
+Rising low (t ∷ ts) = (low < number_of t.refusal) × Rising (number_of t.refusal) ts
 
 -- a panel's call with a lent area leaves all as it was
 pub record SamePanel (p : Panel) (e : Event) (a : Area) : Type 0 where
