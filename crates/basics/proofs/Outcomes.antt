@@ -14,6 +14,12 @@ use Rattle.basics.proofs.wide.Kinds as wide-kinds
 use Rattle.basics.proofs.wide.Reads as wide
 use Rattle.basics.proofs.least.Kinds as least-kinds
 use Rattle.basics.proofs.least.Reads as least
+use Rattle.basics.proofs.refused.Refusal.number.Kinds as number-kinds
+use Rattle.basics.proofs.refused.Refusal.number.Reads as number
+use Rattle.basics.proofs.refused.Refusal.when.Kinds as when-kinds
+use Rattle.basics.proofs.refused.Refusal.when.Reads as when
+use Rattle.basics.proofs.kinds.Kind.byte.Kinds as byte-kinds
+use Rattle.basics.proofs.kinds.Kind.byte.Reads as byte
 
 pub both-only : OneResult 0 both-kinds.ps both-kinds.r both.Post
 both-only κs a x y e f p q = p ∙ sym q
@@ -32,3 +38,12 @@ wide-only κs a x y e f p q = p.0 ∙ sym q.0
 
 pub least-only : OneResult 0 least-kinds.ps least-kinds.r least.Post
 least-only κs a x y e f p q = p ∙ sym q
+
+pub number-only : OneResult 0 number-kinds.ps number-kinds.r number.Post
+number-only κs a x y e f p q = p.0 ∙ sym q.0
+
+pub when-only : OneResult 0 when-kinds.ps when-kinds.r when.Post
+when-only κs a x y e f p q = p ∙ sym q
+
+pub byte-only : OneResult 0 byte-kinds.ps byte-kinds.r byte.Post
+byte-only κs a x y e f p q = p.0 ∙ sym q.0

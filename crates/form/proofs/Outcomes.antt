@@ -10,6 +10,11 @@ use Rattle.form.proofs.in_form.Kinds as in-form-kinds
 use Rattle.form.proofs.in_form.Reads as in-form
 use Rattle.form.proofs.fresh.Kinds as fresh-kinds
 use Rattle.form.proofs.fresh.Reads as fresh
+use Rattle.form.proofs.Operation.is_idle.Kinds as is-idle-kinds
+use Rattle.form.proofs.Operation.is_idle.Reads as is-idle
+
+pub is-idle-only : OneResult 0 is-idle-kinds.ps is-idle-kinds.r is-idle.Post
+is-idle-only κs a x y e f p q = p ∙ sym q
 
 pub fits-only : OneResult 0 fits-kinds.ps fits-kinds.r fits.Post
 fits-only κs a x y e f p q = p ∙ sym q

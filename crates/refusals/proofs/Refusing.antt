@@ -1,16 +1,19 @@
 -- The trials of an event one after the other, as its code tries them, and what the first of them have settled when the next are tried.
 -- Assumes nothing.
-use mathlib.Core.{Bool.{Bool, true, false, not}, List.{List, [], ◌∷◌, ◌++◌}, Logic.◌≢◌, Path.{◌≡◌, refl, sym, ap, ◌∙◌}}
+use mathlib.Core.{Bool.{Bool, true, false, not}, List.{List, [], ◌∷◌, ◌++◌}, Logic.◌≢◌, Path.{◌≡◌, refl, sym, ap, ap₂, ◌∙◌}}
 use Prim.Native.Nat.{ℕ, ◌≤◌, ◌<◌}
 use native.Mathlib.Omega.{arith}
-use borrow.Author.Tests.{lt-ltb, le-ltb, not-false}
+use lib.Dec.{leb, ltb}
+use borrow.Author.Tests.{lt-ltb, le-ltb, le-leb, eq-eqb, ne_eqb, not-false}
 use Rattle.std.specs.Prelude.{Ok}
 use Rattle.basics.proofs.Refusals.{passed, first-given, first-not, first-none, first_past, first_stops, none-met}
 use Rattle.basics.specs.Refusal.{Trial, first_of, met, refuse, number_of}
-use Rattle.basics.specs.declared.refused.Refusal.{Refusal, TheVariants.{StrayWrite}}
-use Rattle.form.{proofs.InForm.{InForm, form-view, sized}, specs.Asked.Sized, specs.Form.in_form}
+use Rattle.basics.specs.declared.refused.Refusal.{Refusal, TheVariants.{StrayWrite, StrayProceed, LineFull}}
+use Rattle.form.{proofs.InForm.{InForm, form-view, sized}, specs.Asked.Sized, specs.Form.{in_form, at_writer}, specs.Setting.{own_w, own_r}}
 use Rattle.form.specs.declared.Tables.{Tables}
-use Rattle.refusals.specs.Refusals.{is_peer, first_trials, peer_trials, write_trials, read_trials}
+use Rattle.tables.specs.Places.{w_at, r_at, line_at}
+use Rattle.basics.specs.Choice.{both}
+use Rattle.refusals.specs.Refusals.{is_peer, is_idle, stray, line_full, first_trials, peer_trials, write_trials, read_trials, write_from_trials, read_from_trials, proceed_from_trials}
 use Rattle.refusals.proofs.Passing.{MayCome, may-come}
 
 module _ (p : Tables) (room : ℕ) where
@@ -65,3 +68,65 @@ module _ (p : Tables) (room : ℕ) where
 
       pub more-0 : first_of (peer_trials p room j) ≡ 0 → b ≡ false → 0 ≡ first_of (peer_trials p room j ++ (refuse r b ∷ []))
       more-0 e h = sym (first_past (peer_trials p room j) _ e ∙ first-not _ _ h ∙ first-none)
+
+    pub peer-4 : first_of (first_trials p room) ≡ 0 → is_peer p j ≡ false → 4 ≡ first_of (peer_trials p room j)
+    unfolding peer_trials
+    peer-4 e h = sym (behind _ e ∙ first-given _ _ (ap not h))
+
+  module _ (e : first_of (first_trials p room) ≡ 0) where
+    pub write-6 : at_writer p ≡ false → 6 ≡ first_of (write_trials p room)
+    unfolding write_trials
+    write-6 h = sym (behind _ e ∙ first-given _ _ (ap not h))
+
+    pub write-7 : at_writer p ≡ true → is_idle p.operation ≡ false → 7 ≡ first_of (write_trials p room)
+    unfolding write_trials
+    write-7 h o = sym (behind _ e ∙ first-not _ _ (ap not h) ∙ first-given _ _ (ap not o))
+
+    pub write-8 : at_writer p ≡ true → is_idle p.operation ≡ true → 200 ≤ own_w p → 8 ≡ first_of (write_trials p room)
+    unfolding write_trials
+    write-8 h o w = sym (behind _ e ∙ first-not _ _ (ap not h) ∙ first-not _ _ (ap not o) ∙ first-given _ _ (le-leb _ _ w))
+
+    pub read-7 : is_idle p.operation ≡ false → 7 ≡ first_of (read_trials p room)
+    unfolding read_trials
+    read-7 o = sym (behind _ e ∙ first-given _ _ (ap not o))
+
+    pub read-8 : is_idle p.operation ≡ true → 100 ≤ own_r p → 8 ≡ first_of (read_trials p room)
+    unfolding read_trials
+    read-8 o r = sym (behind _ e ∙ first-not _ _ (ap not o) ∙ first-given _ _ (le-leb _ _ r))
+
+-- ---- 11, 12 and 13; i and m are the panel's own number and the peer's as the code holds them
+
+module _ (p : Tables) (room j i m : ℕ) (own : i ≡ p.number) (peer : m ≡ j) (e : first_of (peer_trials p room j) ≡ 0) where
+  pub proceed-given : r_at p.r (m - 1) ≡ r_at p.r (i - 1) → 12 ≡ first_of (proceed_from_trials p room j)
+  unfolding proceed_from_trials
+  proceed-given h = more_given p room j StrayProceed _ e (eq-eqb _ _ (ap (λ (x : ℕ). r_at p.r (x - 1)) (sym peer) ∙ h ∙ ap (λ (x : ℕ). r_at p.r (x - 1)) own))
+
+  pub proceed-0 : r_at p.r (m - 1) ≢ r_at p.r (i - 1) → 0 ≡ first_of (proceed_from_trials p room j)
+  unfolding proceed_from_trials
+  proceed-0 h =
+      more-0 p room j StrayProceed _ e
+      (ne_eqb _ _ (λ (s : r_at p.r (j - 1) ≡ own_r p). h (ap (λ (x : ℕ). r_at p.r (x - 1)) peer ∙ s ∙ ap (λ (x : ℕ). r_at p.r (x - 1)) (sym own))))
+
+  full : Bool
+  full = both (ltb (w_at p.w (m - 1)) (w_at p.w (i - 1))) (leb 100 (line_at p.lines (m - 1)).len)
+
+  full_is : full ≡ line_full p (j - 1)
+  unfolding full line_full
+  full_is = ap₂ (λ (x y : ℕ). both (ltb (w_at p.w (x - 1)) (w_at p.w (y - 1))) (leb 100 (line_at p.lines (x - 1)).len)) peer own
+
+  pub read-from-given : both (ltb (w_at p.w (m - 1)) (w_at p.w (i - 1))) (leb 100 (line_at p.lines (m - 1)).len) ≡ true → 13 ≡ first_of (read_from_trials p room j)
+  unfolding read_from_trials full
+  read-from-given h = more_given p room j LineFull _ e (sym full_is ∙ h)
+
+  pub read-from-0 : both (ltb (w_at p.w (m - 1)) (w_at p.w (i - 1))) (leb 100 (line_at p.lines (m - 1)).len) ≡ false → 0 ≡ first_of (read_from_trials p room j)
+  unfolding read_from_trials full
+  read-from-0 h = more-0 p room j LineFull _ e (sym full_is ∙ h)
+
+module _ (p : Tables) (room j m : ℕ) (b : Bool) (peer : m ≡ j) (e : first_of (peer_trials p room j) ≡ 0) where
+  pub write-from-given : stray p (m - 1) b ≡ true → 11 ≡ first_of (write_from_trials p room j b)
+  unfolding write_from_trials
+  write-from-given h = more_given p room j StrayWrite _ e (ap (λ (x : ℕ). stray p (x - 1) b) (sym peer) ∙ h)
+
+  pub write-from-0 : stray p (m - 1) b ≡ false → 0 ≡ first_of (write_from_trials p room j b)
+  unfolding write_from_trials
+  write-from-0 h = more-0 p room j StrayWrite _ e (ap (λ (x : ℕ). stray p (x - 1) b) (sym peer) ∙ h)
