@@ -1,7 +1,7 @@
 -- A record of a schedule is first read (15, 16), then placed (17), and then tried as the call that it is: the answer on its line.
 -- Assumes nothing.
 use Prim.Native.Nat.{ℕ, ◌-◌}
-use mathlib.Core.{Bool.{Bool, true, false, not}, List.{List, [], ◌∷◌, ◌++◌}, Logic.◌≢◌, Path.{◌≡◌, refl, sym, ap, subst, ◌∙◌}}
+use mathlib.Core.{Bool.{Bool, true, false, not}, List.{List, [], ◌∷◌, ◌++◌}, Path.{◌≡◌, refl, sym, ap, subst, ◌∙◌}}
 use lib.Dec.{eqb}
 use borrow.Author.Tests.{eqb-true, eqb-false, not-true, not-false}
 use Rattle.std.specs.Prelude.{Result, Ok, Err}
@@ -14,7 +14,7 @@ use Rattle.form.specs.Form.{fits}
 use Rattle.promise.specs.View.{code_of}
 use Rattle.house.specs.declared.Network.{Network}
 use Rattle.steps.{proofs.AtStart.{set-up-taken, set-up-refused}, specs.SetUp.set_up, specs.declared.Stepped.Stepped}
-use Rattle.listing.specs.Entries.{entry, unread, told, stepped, entries, next, later, first_set_up, first, all}
+use Rattle.listing.specs.Entries.{entry, unread, told, stepped, entries, later, first_set_up, first, all}
 use Rattle.claims.specs.Tried.{Call, read_number, answer_of, trials_of, First}
 use Rattle.claims.proofs.{InOrder.answers, Trying.{first-of, tries, passes}}
 

@@ -9,7 +9,7 @@ use Rattle.basics.{proofs.Choices.{ite-true, ite-case}, specs.Choice.ite}
 use Rattle.form.specs.Form.{fits}
 use Rattle.house.specs.{NetForm.net_form, declared.Network.Network}
 use Rattle.steps.{proofs.AtStart.set-up-taken, proofs.Networks.good-test, proofs.Settling.checked-in-form, specs.Drain.{drain_in, drained}}
-use Rattle.steps.specs.{SetUp.{fresh_network}, Steps.{write_in, read_in, deliver_in, lose_in}, declared.Drained.Drained}
+use Rattle.steps.specs.{SetUp.{no_network}, Steps.{write_in, read_in, deliver_in, lose_in}, declared.Drained.Drained}
 use Rattle.steps.specs.declared.Stepped.{Stepped}
 use Rattle.runs.proofs.{FromFresh.start-holds, Holding.Holds, Running.{step-fares, run_holds}}
 use Rattle.runs.specs.Runs.{Step, Did, did, emptied, does, after, Entry, entries, Step.{write, read, deliver, lose, drain}}
@@ -121,7 +121,7 @@ spared (c ∷ cs) = spared_of c ++ spared cs
 start-kept : (n t writer : ℕ) → fits n t writer ≡ true → Holds (start n t writer)
 unfolding start
 start-kept n t writer ok =
-    subst Holds (ap (λ (m : Result Network Refusal). result_unwrap_or m (fresh_network 0 0 0 0)) (sym (set-up-taken n t writer 700 ok)))
+    subst Holds (ap (λ (m : Result Network Refusal). result_unwrap_or m no_network) (sym (set-up-taken n t writer 700 ok)))
     (start-holds n t writer 700 ok)
 
 of-spared : (c : Case) → values_of c ≡ spared_of c

@@ -7,7 +7,7 @@ use Rattle.refusals.specs.Refusals.{Event}
 use Rattle.panel.specs.Calls as calls
 use Rattle.panel.specs.declared.Panel.{Panel}
 use Rattle.house.specs.declared.Network.{Network}
-use Rattle.steps.specs.{Drain.drained, SetUp.{fresh_network, set_up}, Steps.{written, begun, delivered, lost}}
+use Rattle.steps.specs.{Drain.drained, SetUp.{no_network, set_up}, Steps.{written, begun, delivered, lost}}
 use Rattle.runs.specs.Runs.{Step, does, after, Step.{write, read, deliver, lose, drain}}
 use Rattle.claims.specs.Shown.{answered, counted, flying_from, held_at, waiting_at, doing_at, drain_lines}
 
@@ -71,7 +71,7 @@ pub data Case : Type 0 where
 
 -- the network that set-up makes; one of zeros where it makes none
 unfoldable pub start : ℕ → ℕ → ℕ → Network
-start n t writer = result_unwrap_or (set_up n t writer 700) (fresh_network 0 0 0 0)
+start n t writer = result_unwrap_or (set_up n t writer 700) no_network
 
 -- and the panel likewise
 unfoldable pub lone : ℕ → ℕ → ℕ → ℕ → Panel
