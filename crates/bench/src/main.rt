@@ -44,8 +44,7 @@ fn lay(schedule: &[u8], area: &mut [u8]) -> usize
     ensures prefix_len { IsPrefixLen result area.new }
     ensures area_after { take result area.new ≡ listing_of schedule.now }
 {
-    let listed = listing::listing(schedule, area);
-    listed.length
+    listing::listing(schedule, area).unwrap_or(0)
 }
 
 fn print_listing(rt: HostRuntime, schedule: &[u8]) {
