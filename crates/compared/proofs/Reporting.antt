@@ -5,7 +5,7 @@ use Prim.Native.Nat.{ℕ}
 use lib.Seq.{sets}
 use Rattle.messages.specs.Area.{Area}
 use Rattle.form.specs.declared.Tables.{Tables}
-use Rattle.panel.specs.{Calls.{Called, called}, declared.Made.Made, declared.Outcome.Outcome, declared.Panel.Panel}
+use Rattle.panel.specs.{Calls.{Called, called}, declared.Outcome.Outcome, declared.Panel.Panel}
 use Rattle.refusals.specs.Refusals.{Event}
 use Rattle.carried.{proofs.Lengths.length-panel, proofs.Rows.laid_then, specs.Laid.Laid, specs.Panels.panel_bytes}
 use Rattle.compared.specs.Reported.{outcome_bytes, Reported, reported}
@@ -25,8 +25,3 @@ panel-then p l m o ys first next =
     let h : Laid l 0 (panel_bytes p) m = record { is = first } in
     let w : Laid l 0 (panel_bytes p ++ ys) o = laid_then 1566 h (length-panel p) refl next in
     w.is
-
-pub set-up-reported :
-    (m q : Made) (l out : List ℕ) → m ≡ q → out ≡ sets l 0 (panel_bytes m.panel.tables) → (m.refusal ≡ q.refusal) × (out ≡ sets l 0 (panel_bytes q.panel.tables))
-set-up-reported m q l out same put =
-    (ap (λ (r : Made). r.refusal) same, put ∙ ap (λ (r : Made). sets l 0 (panel_bytes r.panel.tables)) same)

@@ -1,9 +1,11 @@
 -- What a network's call comes to for a caller in another language: bytes with the next network and, behind it, the answer.
 -- Assumes nothing.
-use Rattle.std.specs.Prelude.{ℕ, List, [], ◌∷◌, ◌++◌}
-use Rattle.basics.specs.Below.{one_if}
-use Rattle.house.specs.declared.Found.{Found}
-use Rattle.steps.specs.declared.{Drained.Drained, Sought.Sought, Stepped.Stepped}
+use Rattle.std.specs.Prelude.{ℕ, List, [], ◌∷◌, ◌++◌, false, replicate, Option, Some, None, Result, Ok, Err}
+use Rattle.basics.specs.{Refusal.{number_of, code}, declared.refused.Refusal.Refusal}
+use Rattle.panel.specs.Calls.{nothing}
+use Rattle.channels.specs.Channels.{empty_row}
+use Rattle.house.specs.declared.{InFlight.InFlight, Network.Network}
+use Rattle.steps.specs.declared.{Drained.Drained, Stepped.Stepped}
 use Rattle.conveyed.specs.Networks.{network_bytes}
 use Rattle.compared.specs.Reported.{answer_bytes}
 
@@ -12,11 +14,18 @@ stepped_bytes o = network_bytes o.network ++ answer_bytes o.answer
 
 -- the refusal's number or 0; the count is the call's own result
 unfoldable pub drained_bytes : Drained → List ℕ
-drained_bytes o = network_bytes o.network ++ (o.refusal ∷ [])
+drained_bytes o = network_bytes o.network ++ (code o.answer ∷ [])
 
--- a search leaves no network: the refusal's number or 0, whether there is a message, its sender, receiver and kind
-unfoldable pub found_bytes : Found → List ℕ
-found_bytes f = one_if f.any ∷ f.sender ∷ f.receiver ∷ f.kind ∷ []
+-- whether there is a message, its sender, receiver and kind
+unfoldable pub found_bytes : Option InFlight → List ℕ
+found_bytes None = 0 ∷ 0 ∷ 0 ∷ 0 ∷ []
+found_bytes (Some x) = 1 ∷ x.sender ∷ x.receiver ∷ x.kind ∷ []
 
-unfoldable pub sought_bytes : Sought → List ℕ
-sought_bytes o = o.refusal ∷ found_bytes o.found
+-- a search leaves no network: the refusal's number or 0, and what is found
+unfoldable pub sought_bytes : Result (Option InFlight) Refusal → List ℕ
+sought_bytes (Ok found) = 0 ∷ found_bytes found
+sought_bytes (Err r) = number_of r ∷ found_bytes None
+
+-- a network of zeros, as set-up would make it of nothing
+unfoldable pub no_network : Network
+no_network = record { panels = replicate 7 nothing; rows = replicate 7 empty_row; down = replicate 7 false }

@@ -9,96 +9,76 @@ mod networks;
 
 ghost use Rattle.std.specs.Prelude.{◌≡◌, not, ◌<◌, ◌∷◌, eqb};
 ghost use lib.Seq.{sets};
+ghost use Rattle.std.specs.Result.{result_unwrap_or};
 ghost use Rattle.basics.specs.Below.{one_if};
+ghost use Rattle.basics.specs.Refusal.{code};
 ghost use Rattle.codec.specs.Numbers.{bytes_of};
 ghost use Rattle.messages.specs.Area.{Area};
 ghost use Rattle.form.specs.Form.{in_form};
 ghost use Rattle.refusals.specs.Refusals.Event.{write, read, write_from, read_from, proceed_from};
-ghost use Rattle.panel.specs.Calls.{called, made, panel_of};
+ghost use Rattle.panel.specs.Calls.{called, made, nothing, panel_of};
 ghost use Rattle.carried.specs.Laid.{Laid};
 ghost use Rattle.carried.specs.Panels.{panel_from, panel_bytes};
 ghost use Rattle.wire.specs.Messages.{reading, writing};
 ghost use Rattle.compared.specs.Told.{read_refusal, read_kind, read_value, read_used, write_refusal, write_used};
 ghost use Rattle.compared.specs.Reported.{answer_bytes, outcome_bytes, Reported, reported};
 
-use events::Answer;
+use basics::{Refusal, byte_if};
+use events::{Answer, Finished};
 use panel::{Outcome, Panel};
-use wire::{Put, Taken};
+
+// The refusal's number, or 0 where there is none.
+fn code<T: Drop>(answer: Result<T, Refusal>) -> u8
+    ensures { result ≡ code answer }
+{
+    match answer {
+        Ok(_) => 0,
+        Err(refusal) => refusal.number(),
+    }
+}
+
+// ---- one message on the wire
 
 #[unsafe(no_mangle)]
 pub extern "C" fn compared_read_refusal(bytes: &[u8]) -> u8
     ensures { result ≡ read_refusal (reading bytes.now) }
 {
-    match wire::read_message(bytes) {
-        Taken::Message {
-            kind: _,
-            value: _,
-            used: _,
-        } => 0,
-        Taken::Refused(r) => r,
-    }
+    code(wire::read_message(bytes))
 }
 
 #[unsafe(no_mangle)]
 pub extern "C" fn compared_read_kind(bytes: &[u8]) -> u8
     ensures { result ≡ read_kind (reading bytes.now) }
 {
-    match wire::read_message(bytes) {
-        Taken::Message {
-            kind,
-            value: _,
-            used: _,
-        } => kind,
-        Taken::Refused(_) => 0,
-    }
+    wire::read_message(bytes).map_or(0, |taken| taken.kind.byte())
 }
 
 #[unsafe(no_mangle)]
 pub extern "C" fn compared_read_value(bytes: &[u8]) -> u32
     ensures { result ≡ read_value (reading bytes.now) }
 {
-    match wire::read_message(bytes) {
-        Taken::Message {
-            kind: _,
-            value,
-            used: _,
-        } => value,
-        Taken::Refused(_) => 0,
-    }
+    wire::read_message(bytes).map_or(0, |taken| taken.value)
 }
 
 #[unsafe(no_mangle)]
 pub extern "C" fn compared_read_used(bytes: &[u8]) -> usize
     ensures { result ≡ read_used (reading bytes.now) }
 {
-    match wire::read_message(bytes) {
-        Taken::Message {
-            kind: _,
-            value: _,
-            used,
-        } => used,
-        Taken::Refused(_) => 0,
-    }
+    wire::read_message(bytes).map_or(0, |taken| taken.used)
 }
 
 #[unsafe(no_mangle)]
 pub extern "C" fn compared_write_refusal(kind: u8, value: u32, area: &mut [u8]) -> u8
     ensures { (result ≡ write_refusal (writing kind value area.old).answer) × (area.new ≡ (writing kind value area.old).area) }
 {
-    match wire::write_message(kind, value, area) {
-        Put::Used(_) => 0,
-        Put::Refused(r) => r,
-    }
+    code(wire::write_message(kind, value, area))
 }
 
 #[unsafe(no_mangle)]
 pub extern "C" fn compared_write_used(kind: u8, value: u32, area: &mut [u8]) -> usize
     ensures { (result ≡ write_used (writing kind value area.old).answer) × (area.new ≡ (writing kind value area.old).area) }
 {
-    match wire::write_message(kind, value, area) {
-        Put::Used(n) => n,
-        Put::Refused(_) => 0,
-    }
+    wire::write_message(kind, value, area).unwrap_or(0)
 }
 
 // ---- a lone panel
@@ -120,15 +100,16 @@ fn put_told(case: u8, number: u8, value: u32, at: usize, out: &mut [u8])
     codec::put_word(out, at + 2, value);
 }
 
+#[tactic(auto, unfolding(crate::specs::Reported::answer_bytes))]
 fn put_answer(a: Answer, at: usize, out: &mut [u8])
     requires { at < 12000 }
     ensures { Laid out.old at (answer_bytes a) out.new }
 {
     match a {
-        Answer::Refused(k) => put_told(0, k, 0, at, out),
-        Answer::Nothing => put_told(1, 0, 0, at, out),
-        Answer::Wrote(x) => put_told(2, x.0, 0, at, out),
-        Answer::Gave(x, v) => put_told(3, x.0, v, at, out),
+        Err(refusal) => put_told(0, refusal.number(), 0, at, out),
+        Ok(None) => put_told(1, 0, 0, at, out),
+        Ok(Some(Finished::Wrote(x))) => put_told(2, x.0, 0, at, out),
+        Ok(Some(Finished::Gave(x, v))) => put_told(3, x.0, v, at, out),
     }
 }
 
@@ -154,8 +135,7 @@ pub extern "C" fn compared_panel_write(
 ) -> usize
     ensures { record { count = result; area = record { receivers = receivers.new; kinds = kinds.new; values = values.new }; out = out.new } ≡ reported out.old (called (panel_of (panel_from tables.now)) (write v) (record { receivers = receivers.old; kinds = kinds.old; values = values.old })) }
 {
-    let p = panel_of(tables);
-    let o = p.write(v, receivers, kinds, values);
+    let o = panel_of(tables).write(v, receivers, kinds, values);
     put_outcome(o, out)
 }
 
@@ -169,8 +149,7 @@ pub extern "C" fn compared_panel_read(
 ) -> usize
     ensures { record { count = result; area = record { receivers = receivers.new; kinds = kinds.new; values = values.new }; out = out.new } ≡ reported out.old (called (panel_of (panel_from tables.now)) read (record { receivers = receivers.old; kinds = kinds.old; values = values.old })) }
 {
-    let p = panel_of(tables);
-    let o = p.read(receivers, kinds, values);
+    let o = panel_of(tables).read(receivers, kinds, values);
     put_outcome(o, out)
 }
 
@@ -187,8 +166,7 @@ pub extern "C" fn compared_panel_write_from(
 ) -> usize
     ensures { record { count = result; area = record { receivers = receivers.new; kinds = kinds.new; values = values.new }; out = out.new } ≡ reported out.old (called (panel_of (panel_from tables.now)) (write_from j (not (eqb bit 0)) v) (record { receivers = receivers.old; kinds = kinds.old; values = values.old })) }
 {
-    let p = panel_of(tables);
-    let o = p.write_from(j, bit != 0, v, receivers, kinds, values);
+    let o = panel_of(tables).write_from(j, bit != 0, v, receivers, kinds, values);
     put_outcome(o, out)
 }
 
@@ -203,8 +181,7 @@ pub extern "C" fn compared_panel_read_from(
 ) -> usize
     ensures { record { count = result; area = record { receivers = receivers.new; kinds = kinds.new; values = values.new }; out = out.new } ≡ reported out.old (called (panel_of (panel_from tables.now)) (read_from j) (record { receivers = receivers.old; kinds = kinds.old; values = values.old })) }
 {
-    let p = panel_of(tables);
-    let o = p.read_from(j, receivers, kinds, values);
+    let o = panel_of(tables).read_from(j, receivers, kinds, values);
     put_outcome(o, out)
 }
 
@@ -219,8 +196,7 @@ pub extern "C" fn compared_panel_proceed_from(
 ) -> usize
     ensures { record { count = result; area = record { receivers = receivers.new; kinds = kinds.new; values = values.new }; out = out.new } ≡ reported out.old (called (panel_of (panel_from tables.now)) (proceed_from j) (record { receivers = receivers.old; kinds = kinds.old; values = values.old })) }
 {
-    let p = panel_of(tables);
-    let o = p.proceed_from(j, receivers, kinds, values);
+    let o = panel_of(tables).proceed_from(j, receivers, kinds, values);
     put_outcome(o, out)
 }
 
@@ -228,8 +204,7 @@ pub extern "C" fn compared_panel_proceed_from(
 pub extern "C" fn compared_panel_in_form(tables: &[u8]) -> u8
     ensures { result ≡ one_if (in_form (panel_from tables.now)) }
 {
-    let p = panel_of(tables);
-    if p.in_form() { 1 } else { 0 }
+    byte_if(panel_of(tables).in_form())
 }
 
 #[unsafe(no_mangle)]
@@ -241,11 +216,11 @@ pub extern "C" fn compared_panel_set_up(
     initial: u32,
     out: &mut [u8],
 ) -> u8
-    ensures { (result ≡ (made n t writer number initial).refusal) × (out.new ≡ sets out.old 0 (panel_bytes (made n t writer number initial).panel.tables)) }
+    ensures { (result ≡ code (made n t writer number initial)) × (out.new ≡ sets out.old 0 (panel_bytes (result_unwrap_or (made n t writer number initial) nothing).tables)) }
 {
-    let m = Panel::set_up(n, t, writer, number, initial);
-    let p = m.panel;
+    let made = Panel::set_up(n, t, writer, number, initial);
+    let p = made.unwrap_or(Panel::nothing());
     let t = p.tables;
     carried::panel_into(t, out);
-    m.refusal
+    code(made)
 }

@@ -2,18 +2,19 @@
 ghost use Rattle.std.specs.Prelude.{◌≡◌};
 ghost use lib.Seq.{sets};
 ghost use Rattle.basics.specs.Below.{one_if};
+ghost use Rattle.basics.specs.Refusal.{code};
 ghost use Rattle.house.specs.NetForm.{net_form};
 ghost use Rattle.steps.specs.Steps.{written, begun, delivered, lost};
 ghost use Rattle.steps.specs.Search.{sought};
-ghost use Rattle.steps.specs.Drain.{drained};
-ghost use Rattle.steps.specs.SetUp.{set_up};
-ghost use Rattle.carried.specs.Laid.{Laid};
+ghost use Rattle.steps.specs.Drain.{counted, drained};
+ghost use Rattle.steps.specs.SetUp.{fresh_network, set_up};
 ghost use Rattle.conveyed.specs.Networks.{network_from, network_bytes};
-ghost use Rattle.compared.specs.Stepping.{stepped_bytes, drained_bytes, found_bytes, sought_bytes};
+ghost use Rattle.compared.specs.Stepping.{stepped_bytes, drained_bytes, sought_bytes, no_network};
 
-use crate::put_answer;
-use basics::byte_if;
-use house::Found;
+use crate::{code, put_answer};
+use basics::{Refusal, byte_if};
+use house::{InFlight, Network};
+use panel::Panel;
 use steps::Stepped;
 
 fn put_stepped(o: Stepped, out: &mut [u8])
@@ -25,15 +26,30 @@ fn put_stepped(o: Stepped, out: &mut [u8])
     put_answer(a, 11557, out);
 }
 
-fn put_found(f: Found, out: &mut [u8])
-    ensures { Laid out.old 1 (found_bytes f) out.new }
+#[tactic(auto, unfolding(crate::specs::Stepping::sought_bytes, crate::specs::Stepping::found_bytes))]
+fn sought_bytes(sought: Result<Option<InFlight>, Refusal>) -> [u8; 5]
+    ensures { result ≡ sought_bytes sought }
 {
-    codec::put_byte(out, 1, byte_if(f.any));
-    codec::put_byte(out, 2, f.sender);
-    codec::put_byte(out, 3, f.receiver);
-    codec::put_byte(out, 4, f.kind);
+    match sought {
+        Ok(Some(found)) => [0, 1, found.sender, found.receiver, found.kind],
+        Ok(None) => [0; 5],
+        Err(refusal) => [refusal.number(), 0, 0, 0, 0],
+    }
 }
 
+// A network of zeros: what a refused set-up leaves.
+#[tactic(auto, unfolding(crate::specs::Stepping::no_network))]
+fn nothing() -> Network
+    ensures { result ≡ no_network }
+{
+    Network {
+        panels: [Panel::nothing(); 7],
+        rows: [channels::empty_row(); 7],
+        down: [false; 7],
+    }
+}
+
+#[tactic(auto, using(crate::proofs::Stepping::setting_up))]
 #[unsafe(no_mangle)]
 pub extern "C" fn compared_network_set_up(
     n: u8,
@@ -42,12 +58,12 @@ pub extern "C" fn compared_network_set_up(
     initial: u32,
     out: &mut [u8],
 ) -> u8
-    ensures { (result ≡ (set_up n t writer initial).refusal) × (out.new ≡ sets out.old 0 (network_bytes (set_up n t writer initial).network)) }
+    ensures { (result ≡ code (set_up n t writer initial)) × (out.new ≡ sets out.old 0 (network_bytes (fresh_network n t writer initial))) }
 {
-    let m = network::set_up(n, t, writer, initial);
-    let s = m.network;
+    let made = network::set_up(n, t, writer, initial);
+    let s = made.unwrap_or(nothing());
     conveyed::network_into(s, out);
-    m.refusal
+    code(made)
 }
 
 #[unsafe(no_mangle)]
@@ -99,20 +115,22 @@ pub extern "C" fn compared_network_next_delivery(tables: &[u8], out: &mut [u8])
     ensures { out.new ≡ sets out.old 0 (sought_bytes (sought (network_from tables.now))) }
 {
     let s = conveyed::network_from(tables);
-    let o = network::next_delivery(s);
-    let f = o.found;
-    codec::put_byte(out, 0, o.refusal);
-    put_found(f, out);
+    let [refusal, any, sender, receiver, kind] = sought_bytes(network::next_delivery(s));
+    codec::put_byte(out, 0, refusal);
+    codec::put_byte(out, 1, any);
+    codec::put_byte(out, 2, sender);
+    codec::put_byte(out, 3, receiver);
+    codec::put_byte(out, 4, kind);
 }
 
 #[unsafe(no_mangle)]
 pub extern "C" fn compared_network_drain(tables: &[u8], out: &mut [u8]) -> usize
-    ensures { (result ≡ (drained (network_from tables.now)).count) × (out.new ≡ sets out.old 0 (drained_bytes (drained (network_from tables.now)))) }
+    ensures { (result ≡ counted (drained (network_from tables.now)).answer) × (out.new ≡ sets out.old 0 (drained_bytes (drained (network_from tables.now)))) }
 {
     let s = conveyed::network_from(tables);
     let o = network::drain(s);
     let next = o.network;
     conveyed::network_into(next, out);
-    codec::put_byte(out, 11557, o.refusal);
-    o.count
+    codec::put_byte(out, 11557, code(o.answer));
+    o.answer.unwrap_or(0)
 }

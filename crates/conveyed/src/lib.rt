@@ -6,7 +6,7 @@ ghost use Rattle.std.specs.Prelude.{◌≡◌, ℕ, ◌+◌, ◌*◌, ◌<◌, [
 ghost use lib.Seq.{sets};
 ghost use Rattle.basics.specs.Below.{one_if, list_below};
 ghost use Rattle.carried.specs.Laid.{Laid};
-ghost use Rattle.carried.specs.Panels.{hold_from, hold_bytes, panel_bytes};
+ghost use Rattle.carried.specs.Panels.{panel_bytes};
 ghost use Rattle.conveyed.specs.Networks.{member_from, flag_from, channel_from, row_from, network_from, members_bytes, down_bytes, channel_bytes, row_bytes, rows_bytes, network_bytes};
 
 use basics::byte_if;
@@ -14,7 +14,6 @@ use channels::{Channel, Row};
 use house::Network;
 use panel::Panel;
 use std::array;
-use tables::Hold;
 
 // ---- out of bytes
 
@@ -47,27 +46,14 @@ fn down_from(bytes: &[u8]) -> [bool; 7]
     array::from_fn(|i| flag_from(bytes, 10962 + i))
 }
 
-#[tactic(auto, unfolding(carried::specs::Panels::hold_from))]
-fn hold_from(bytes: &[u8], at: usize) -> Hold
-    requires { at < 12000 }
-    ensures { result ≡ hold_from bytes.now at }
-{
-    let flag = codec::byte_at(bytes, at);
-    let value = codec::word_at(bytes, at + 1);
-    Hold {
-        full: flag != 0,
-        value,
-    }
-}
-
 #[tactic(auto, unfolding(crate::specs::Networks::channel_from))]
 fn channel_from(bytes: &[u8], at: usize) -> Channel
     requires { at < 11900 }
     ensures { result ≡ channel_from bytes.now at }
 {
     Channel {
-        write0: hold_from(bytes, at),
-        write1: hold_from(bytes, at + 5),
+        write0: carried::hold_from(bytes, at),
+        write1: carried::hold_from(bytes, at + 5),
         reads: codec::byte_at(bytes, at + 10),
         proceeds: codec::byte_at(bytes, at + 11),
     }
@@ -134,20 +120,12 @@ fn put_down(down: &[bool; 7], out: &mut [u8])
     }
 }
 
-fn put_hold(h: Hold, at: usize, out: &mut [u8])
-    requires { at < 12000 }
-    ensures { Laid out.old at (hold_bytes h) out.new }
-{
-    put_flag(h.full, at, out);
-    codec::put_word(out, at + 1, h.value);
-}
-
 fn put_channel(c: Channel, at: usize, out: &mut [u8])
     requires { at < 11900 }
     ensures { Laid out.old at (channel_bytes c) out.new }
 {
-    put_hold(c.write0, at, out);
-    put_hold(c.write1, at + 5, out);
+    carried::put_hold(c.write0, at, out);
+    carried::put_hold(c.write1, at + 5, out);
     codec::put_byte(out, at + 10, c.reads);
     codec::put_byte(out, at + 11, c.proceeds);
 }

@@ -2,4 +2,4 @@ use Rattle.compared.proofs.{Reporting.reporting}
 use Rattle.compared.proofs.compared_panel_write_from.Goals as goal
 
 pub returns : goal.returns
-returns c = reporting _ _ _ _ _ _ _ _ _ c.panel_of-p.ensures c.write_from-o.ensures c.put_outcome.ensures
+returns c = reporting _ _ _ _ _ _ _ _ _ c.panel_of.ensures c.write_from-o.ensures c.put_outcome.ensures
