@@ -4,7 +4,7 @@
 use mathlib.Core.{Bool.{Bool, true, false}, List.{List, [], ◌∷◌, ◌++◌}, Logic.◌≢◌, Path.{◌≡◌, refl, sym, ap, ◌∙◌}}
 use Prim.Native.Nat.{ℕ, ◌<◌}
 use native.Mathlib.Omega.{arith}
-use lib.Dec.{lit<}
+use lib.Dec.{eqb, lit<}
 use Rattle.std.specs.Prelude.{Result, Ok, Err}
 use Rattle.basics.specs.{Choice.ite, Refusal.{Trial, first_of, met, unless, and_then, number_of, code}}
 use Rattle.basics.specs.declared.refused.Refusal.{Refusal}
@@ -170,6 +170,59 @@ pub unless-two {ℓ κ μ} :
 unfolding unless
 unless-two R (Ok b) x u f g ok err = ok b refl
 unless-two R (Err r) x u f g ok err = err r refl
+
+-- ---- a number is that of one refusal
+
+with-number : ℕ → Refusal
+with-number n =
+    ite (eqb n 1) OutOfRange
+    (ite (eqb n 2) NotInForm
+    (ite (eqb n 3) AreaTooShort
+    (ite (eqb n 4) NoSuchPanel
+    (ite (eqb n 5) PanelDown
+    (ite (eqb n 6) NotTheWriter
+    (ite (eqb n 7) Unfinished
+    (ite (eqb n 8) UsedUp
+    (ite (eqb n 9) NothingInFlight
+    (ite (eqb n 10) TooManyDown
+    (ite (eqb n 11) StrayWrite
+    (ite (eqb n 12) StrayProceed
+    (ite (eqb n 13) LineFull
+    (ite (eqb n 14) ChannelFull
+    (ite (eqb n 15) UnknownKind
+    (ite (eqb n 16) CutShort
+    SetUpMisplaced)))))))))))))))
+
+with-its-own : (r : Refusal) → with-number (number_of r) ≡ r
+unfolding with-number ite
+with-its-own OutOfRange = refl
+with-its-own NotInForm = refl
+with-its-own AreaTooShort = refl
+with-its-own NoSuchPanel = refl
+with-its-own PanelDown = refl
+with-its-own NotTheWriter = refl
+with-its-own Unfinished = refl
+with-its-own UsedUp = refl
+with-its-own NothingInFlight = refl
+with-its-own TooManyDown = refl
+with-its-own StrayWrite = refl
+with-its-own StrayProceed = refl
+with-its-own LineFull = refl
+with-its-own ChannelFull = refl
+with-its-own UnknownKind = refl
+with-its-own CutShort = refl
+with-its-own SetUpMisplaced = refl
+
+pub number-once : (r q : Refusal) → number_of r ≡ number_of q → r ≡ q
+number-once r q e = sym (with-its-own r) ∙ ap with-number e ∙ with-its-own q
+
+-- where the first that applies has a refusal's number, that refusal is met
+pub met-some : (ts : List Trial) (r : Refusal) → first_of ts ≡ number_of r → met ts ≡ Err r
+met-some ts r e = go (met ts) (code-met ts ∙ e)
+  where
+    go : (m : Result Unit Refusal) → code m ≡ number_of r → m ≡ Err r
+    go (Ok u) z = absurd (number-some r (sym z))
+    go (Err q) z = ap Err (number-once q r z)
 
 -- ---- one trial after the other
 

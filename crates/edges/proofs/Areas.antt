@@ -6,15 +6,16 @@ use mathlib.Core.{Bool.true, List.{List, [], map}, Logic.{inr, ◌≢◌}, Path.
 use Prim.Native.Nat.{ℕ, ◌≤◌, ◌<◌}
 use native.Mathlib.{Nat.zero-add, Omega.arith}
 use lib.{ListN.{length, get_or, length-map, get_or-map}, Seq.ext_get_or}
-use borrow.Author.Tests.{ne_eqb}
-use Rattle.basics.proofs.{Choices.ite-false, Refusals.first_stops}
+use Rattle.std.specs.Prelude.{Err}
+use Rattle.basics.{proofs.Refusals.{first_stops, met-some, unless-err}, specs.Refusal.number_of}
+use Rattle.basics.specs.declared.refused.Refusal.{Refusal, TheVariants.{AreaTooShort}}
 use Rattle.messages.proofs.{Laying.{length-laid, laid-message, laid-past}, Messages.messages-of-none}
 use Rattle.messages.specs.{Area.{Area, laid, laid_in}, Sends.{Message as Sent, messages_of}}
 use Rattle.form.specs.{Form.in_form, declared.Tables.Tables}
 use Rattle.refusals.proofs.Refusing.{first-3, write-first, read_first, peer-first}
 use Rattle.refusals.specs.Refusals.{Event, peer_trials, write_from_trials, read_from_trials, proceed_from_trials, trials, refusal}
 use Rattle.refusals.specs.Refusals.Event.{write, read, write_from, read_from, proceed_from}
-use Rattle.events.specs.{Events.{refused_by, happens}, declared.Answer.TheVariants.Refused, declared.Done.Done}
+use Rattle.events.specs.{Events.{refused_by, happens}, declared.Done.Done}
 use Rattle.panel.specs.{Calls.{Called, told, called}, declared.Outcome.Outcome, declared.Panel.Panel}
 use Rattle.edges.specs.{Columns.columns, declared.Message.Message}
 use Rattle.edges.proofs.Pouring.{room-is}
@@ -124,21 +125,21 @@ module _ (p : Panel) (e : Event) (ys zs : List Message) (o : Outcome) (h : recor
 
   -- ---- a refusal
 
-  -- a refusal by number k
-  pub record Unchanged (k : ℕ) : Type 0 where
+  -- refused by r
+  pub record Unchanged (r : Refusal) : Type 0 where
     pub panel-kept : o.panel ≡ p
-    pub answered : o.answer ≡ Refused k
+    pub answered : o.answer ≡ Err r
     pub none-sent : o.count ≡ 0
     pub area-kept : zs ≡ ys
 
-  refused-done : refusal p.tables (length ys) e ≢ 0 → done ≡ refused_by p.tables (refusal p.tables (length ys) e)
-  unfolding happens
-  refused-done n = ite-false _ _ (ne_eqb _ _ n)
+  refused-done : (r : Refusal) → refusal p.tables (length ys) e ≡ number_of r → done ≡ refused_by p.tables r
+  unfolding happens refusal
+  refused-done r n = unless-err _ _ (met-some (trials p.tables (length ys) e) r n)
 
   -- "A refusal gives its number only and alters no table, channel or buffer"
-  pub refused-unchanged : (k : ℕ) → k ≢ 0 → refusal p.tables (length ys) e ≡ k → Unchanged k
+  pub refused-unchanged : (r : Refusal) → refusal p.tables (length ys) e ≡ number_of r → Unchanged r
   unfolding refused_by
-  refused-unchanged k n r =
+  refused-unchanged r n =
       record {
         panel-kept = ap (λ (x : Outcome). x.panel) outcome-is ∙ ap (λ (d : Done). record { tables = d.tables }) by-refusal;
         answered = ap (λ (x : Outcome). x.answer) outcome-is ∙ ap (λ (d : Done). d.answer) by-refusal;
@@ -146,12 +147,12 @@ module _ (p : Panel) (e : Event) (ys zs : List Message) (o : Outcome) (h : recor
         area-kept = ext_get_or none zs ys length-kept (λ i _. place_kept i (omega (arith, ap length nothing-sent)));
       }
     where
-      by-refusal : done ≡ refused_by p.tables k
-      by-refusal = refused-done (λ z. n (sym r ∙ z)) ∙ ap (refused_by p.tables) r
+      by-refusal : done ≡ refused_by p.tables r
+      by-refusal = refused-done r n
 
       nothing-sent : messages_of done.sends ≡ []
       nothing-sent = ap (λ (d : Done). messages_of d.sends) by-refusal ∙ messages-of-none
 
   -- "message area under 107" is refused 3, by tables in form
-  pub short-refused : in_form p.tables ≡ true → length ys < 107 → Unchanged 3
-  short-refused f l = refused-unchanged 3 three-not-none (short p.tables (length ys) e f l)
+  pub short-refused : in_form p.tables ≡ true → length ys < 107 → Unchanged AreaTooShort
+  short-refused f l = refused-unchanged AreaTooShort (short p.tables (length ys) e f l)
