@@ -1,6 +1,6 @@
 -- The turns are the bench's: the step of a turn made in the network, the turn gives the bench's next line.
 -- Assumes nothing.
-use mathlib.Core.{List.List, Logic.◌≢◌, Path.{◌≡◌, refl, sym, ap, ap₂, subst, ◌∙◌}}
+use mathlib.Core.{List.List, Logic.◌≢◌, Path.{◌≡◌, refl, sym, ap, subst, ◌∙◌}}
 use Prim.Native.Nat.{ℕ, ◌+◌}
 use native.Mathlib.Decide.{ℕ_discrete}
 use lib.{Dec.{ltb, eqb}, ListN.length}
@@ -9,12 +9,12 @@ use Rattle.std.specs.Prelude.{Option, Result, Ok, Err, Some, None}
 use Rattle.basics.{proofs.Choices.ite-two, specs.Choice.{ite, some_or}, specs.declared.refused.Refusal.Refusal}
 use Rattle.schedule.specs.{Records.reading, declared.Record.Record}
 use Rattle.text.specs.declared.Line.{Line}
-use Rattle.house.{proofs.Searching.by-flying, specs.Places.writer_of, specs.Search.{flying, first_in}, specs.declared.InFlight.InFlight}
+use Rattle.house.{proofs.Searching.by-flying, specs.Search.{flying, first_in}, specs.declared.InFlight.InFlight}
 use Rattle.house.specs.declared.Network.{Network}
 use Rattle.steps.{proofs.Networks.{Good, good-test}, proofs.Settling.checked-in-form, proofs.WholeDrain.sought-is}
 use Rattle.steps.specs.declared.Stepped.{Stepped}
-use Rattle.parts.{proofs.Back.{back, moved_back, still_back}, specs.Acting.{actor_of, sender_of, moved}}
-use Rattle.parts.specs.{Steps.{parts_at, put_back, step_in}, declared.Moved.Moved, declared.Step.Step}
+use Rattle.parts.{proofs.Back.{moved_back, still_back}}
+use Rattle.parts.specs.{Steps.{by_parts, step_in}, declared.Step.Step}
 use Rattle.listing.specs.Entries.{misplaced, unread, told, drain_entry, next_step, stepped}
 use Rattle.listing.specs.Machine.{Bench, found_in, drain_step, drain_line, taken_line, record_line, line_ahead, next_line}
 use Rattle.listing.specs.Turning.{bench_at, quiet, steps, step_of, drain_turn, taken_turn, record_turn, next_turn, after_turn}
@@ -89,11 +89,8 @@ module _ (bytes : List ℕ) (s : Network) where
       (λ _. record-turned s (good tt) (reading bytes at) at)
       (λ _. quiet-turned s None ahead.Ended)
 
-  -- the step of the turn on the parts of the network, put back, is its step in the network; there is none once the bench has ended
-  abbrev ActedBy : Step → Type 0
-  ActedBy m = back s (sender_of m (writer_of s)) (actor_of m (writer_of s)) (moved (parts_at s (sender_of m (writer_of s)) (actor_of m (writer_of s))) m) ≡ step_in s m
-
-  next-acted : (a : Ahead) → (Going a → Good s) → ActedBy (next_turn bytes (first_in s) a).step
+  -- the step of the turn by the parts of the network is its step in the network; there is none once the bench has ended
+  next-acted : (a : Ahead) → (Going a → Good s) → by_parts s (next_turn bytes (first_in s) a).step ≡ step_in s (next_turn bytes (first_in s) a).step
   unfolding next_turn step_in
   next-acted ahead.Ended good = still_back s
   next-acted (ahead.Drain at count) good = moved_back s (good-test s (good tt)) _
@@ -102,20 +99,15 @@ module _ (bytes : List ℕ) (s : Network) where
   -- a turn as the code holds it
   pub turn-next :
       (b : Stand) → (Going b.ahead → Good s) → {t : Turn} → t ≡ next_turn bytes (first_in (flying s.rows s.down)) b.ahead →
-      {o p : ℕ} → o ≡ sender_of t.step (writer_of s) → p ≡ actor_of t.step (writer_of s) →
-      {a : Moved} → a ≡ moved (parts_at s o p) t.step → {b' : Stand} → b' ≡ after_turn t a.answer →
-      bench_at (put_back s o p a.parts) b' ≡ next_line bytes (bench_at s b)
-  turn-next b good {t} e {o} {p} from at {a} act after =
-      ap (bench_at (put_back s o p a.parts)) after
-      ∙ ap (λ (x : Stepped). bench_at x.network (after_turn t x.answer)) acted
+      {o : Stepped} → o ≡ by_parts s t.step → {b' : Stand} → b' ≡ after_turn t o.answer → bench_at o.network b' ≡ next_line bytes (bench_at s b)
+  turn-next b good {t} e {o} act after =
+      ap (bench_at o.network) after
+      ∙ ap (λ (x : Stepped). bench_at x.network (after_turn t x.answer)) (act ∙ acted)
       ∙ ap (λ (x : Turn). bench_at (step_in s x.step).network (after_turn x (step_in s x.step).answer)) is
       ∙ next-turned b.ahead good
     where
       is : t ≡ next_turn bytes (first_in s) b.ahead
       is = e ∙ ap (λ (f : Option InFlight). next_turn bytes f b.ahead) (by-flying s)
 
-      acted : back s o p a ≡ step_in s t.step
-      acted =
-          ap (back s o p) act
-          ∙ ap₂ (λ (i j : ℕ). back s i j (moved (parts_at s i j) t.step)) from at
-          ∙ subst ActedBy (ap (λ (x : Turn). x.step) (sym is)) (next-acted b.ahead good)
+      acted : by_parts s t.step ≡ step_in s t.step
+      acted = subst (λ (x : Turn). by_parts s x.step ≡ step_in s x.step) (sym is) (next-acted b.ahead good)

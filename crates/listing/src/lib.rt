@@ -11,7 +11,7 @@ ghost use Rattle.listing.specs.Putting.{Put};
 
 use basics::Refusal;
 use house::Network;
-use parts::{Parts, Step};
+use parts::Step;
 use records::{after_turn, next_turn, opened};
 use schedule::Record;
 use text::Line;
@@ -78,36 +78,13 @@ fn put_lines(schedule: &[u8], out: &mut [u8]) -> usize
     let mut step = 1;
     let start = opened(schedule);
     let mut b = start.stand;
-    let s = start.network;
-    let mut panels = s.panels;
-    let mut rows = s.rows;
-    let mut down = s.down;
+    let mut s = start.network;
     while let Some(l) = b.line {
         at = put_line(out, at, step, l);
         step += 1;
-        let turn = next_turn(schedule, b.ahead, rows, down);
-        // the step, on the parts of the network that it touches; the network itself stays where it is
-        let m = turn.step;
-        let first = panels[0];
-        let f = first.tables;
-        let to = parts::actor(m, f.writer);
-        let from = parts::sender(m, f.writer);
-        let x = Parts {
-            n: f.n,
-            t: f.t,
-            writer: f.writer,
-            down,
-            panel: panels[to],
-            from: rows[from],
-            own: rows[to],
-        };
-        let moved = parts::act(x, m);
-        let y = moved.parts;
-        panels[to] = y.panel;
-        rows[from] = y.from;
-        rows[to] = y.own;
-        down = y.down;
-        b = after_turn(turn, moved.answer);
+        let turn = next_turn(schedule, b.ahead, s.rows, s.down);
+        let answer = parts::step_in_place(&mut s, turn.step);
+        b = after_turn(turn, answer);
     }
     at
 }

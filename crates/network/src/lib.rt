@@ -17,41 +17,21 @@ ghost use Rattle.parts.specs.Steps.{step_in};
 use basics::Refusal;
 use house::{InFlight, Network};
 use panel::Panel;
-use parts::{Parts, Step};
+use parts::Step;
 use std::array;
 use steps::{Drained, Stepped};
 
-// ---- the steps of a network in form: its parts are taken out, moved and put back
+// ---- the steps of a network in form
 
 fn step_in(s: Network, m: Step) -> Stepped
     requires { net_form s ≡ true }
     ensures { result ≡ step_in s m }
 {
-    let mut panels = s.panels;
-    let mut rows = s.rows;
-    let down = s.down;
-    let first = panels[0];
-    let f = first.tables;
-    let to = parts::actor(m, f.writer);
-    let from = parts::sender(m, f.writer);
-    let x = Parts {
-        n: f.n,
-        t: f.t,
-        writer: f.writer,
-        down,
-        panel: panels[to],
-        from: rows[from],
-        own: rows[to],
-    };
-    let moved = parts::act(x, m);
-    let y = moved.parts;
-    panels[to] = y.panel;
-    rows[from] = y.from;
-    rows[to] = y.own;
-    let down = y.down;
+    let mut after = s;
+    let answer = parts::step_in_place(&mut after, m);
     Stepped {
-        network: Network { panels, rows, down },
-        answer: moved.answer,
+        network: after,
+        answer,
     }
 }
 

@@ -17,11 +17,7 @@ use Rattle.steps.{proofs.Passing.{pair-iff, places-apart, may_read}, specs.Steps
 use Rattle.steps.specs.declared.Stepped.{Stepped}
 use Rattle.steps.specs.Steps as steps
 use Rattle.parts.specs.Acting.{place_within, actor_of, sender_of, with_from, with_taken, refused_by, tried, write_trials, read_trials, deliver_trials, lose_trials, settled, written, begun, delivered, lost, moved}
-use Rattle.parts.specs.{Steps.{parts_at, put_back, moved_in, step_in}, declared.Moved.Moved, declared.Step.Step, declared.Step.TheVariants.{Write, Read, Deliver, Lose, Rest}}
-
--- what a step on the parts at places i and j comes to, put back
-abbrev pub back : Network → ℕ → ℕ → Moved → Stepped
-back s i j a = record { network = put_back s i j a.parts; answer = a.answer }
+use Rattle.parts.specs.{Steps.{parts_at, put_back, back, by_parts, step_in}, declared.Moved.Moved, declared.Step.Step, declared.Step.TheVariants.{Write, Read, Deliver, Lose, Rest}}
 
 -- it comes to what a step of the network comes to
 abbrev Backed : Network → ℕ → ℕ → Moved → Stepped → Type 0
@@ -144,7 +140,7 @@ module _ (s : Network) (f : net_form s ≡ true) where
 
   -- ---- a step by what it is
 
-  pub moved_back : (m : Step) → back s (sender_of m (writer_of s)) (actor_of m (writer_of s)) (moved_in s m) ≡ step_in s m
+  pub moved_back : (m : Step) → by_parts s m ≡ step_in s m
   unfolding moved step_in sender_of actor_of
   moved_back (Write v) = write-back v _ refl
   moved_back (Read i) = read_back i _ refl
@@ -152,14 +148,11 @@ module _ (s : Network) (f : net_form s ≡ true) where
   moved_back (Lose i) = lose-back i _ _
   moved_back Rest = ap (λ (x : Network). record { network = x; answer = Ok None }) (unmoved s _ _)
 
--- with the places and what is made of the parts as the code holds them
-pub step_back :
-    (s : Network) → net_form s ≡ true → (m : Step) {o p : ℕ} → o ≡ sender_of m (writer_of s) → p ≡ actor_of m (writer_of s) →
-    {a : Moved} → a ≡ moved (parts_at s o p) m → back s o p a ≡ step_in s m
-step_back s f m {o} {p} from at e =
-    ap (back s o p) e ∙ ap₂ (λ (i j : ℕ). back s i j (moved (parts_at s i j) m)) from at ∙ moved_back s f m
+-- as the code makes it
+pub step_back : (s : Network) → net_form s ≡ true → (m : Step) → by_parts s m ≡ step_in s m
+step_back s f m = moved_back s f m
 
 -- no step leaves any network as it is
-pub still_back : (s : Network) → back s (sender_of Rest (writer_of s)) (actor_of Rest (writer_of s)) (moved_in s Rest) ≡ record { network = s; answer = Ok None }
+pub still_back : (s : Network) → by_parts s Rest ≡ record { network = s; answer = Ok None }
 unfolding moved
 still_back s = ap (λ (x : Network). record { network = x; answer = Ok None }) (unmoved s _ _)

@@ -1,7 +1,9 @@
 -- Each contract of this crate allows one outcome.
 -- Assumes nothing.
-use mathlib.Core.Path.{sym, ◌∙◌}
-use Rattle.basics.specs.Outcome.{OneResult}
+use mathlib.Core.Path.{sym, ap, ◌∙◌}
+use Rattle.house.specs.declared.Network.{Network}
+use Rattle.steps.specs.declared.Stepped.{Stepped}
+use Rattle.basics.specs.Outcome.{OneResult, OneOutcome}
 use Rattle.parts.proofs.actor.Kinds as actor-kinds
 use Rattle.parts.proofs.actor.Reads as actor
 use Rattle.parts.proofs.sender.Kinds as sender-kinds
@@ -10,6 +12,8 @@ use Rattle.parts.proofs.code_of.Kinds as code-of-kinds
 use Rattle.parts.proofs.code_of.Reads as code-of
 use Rattle.parts.proofs.act.Kinds as act-kinds
 use Rattle.parts.proofs.act.Reads as act
+use Rattle.parts.proofs.step_in_place.Kinds as step-in-place-kinds
+use Rattle.parts.proofs.step_in_place.Reads as step-in-place
 
 pub actor-only : OneResult 0 actor-kinds.ps actor-kinds.r actor.Post
 actor-only κs a x y e f p q = p.0 ∙ sym q.0
@@ -22,3 +26,6 @@ code-of-only κs a x y e f p q = p ∙ sym q
 
 pub act-only : OneResult 0 act-kinds.ps act-kinds.r act.Post
 act-only κs a x y e f p q = p ∙ sym q
+
+pub step-in-place-only : OneOutcome 1 step-in-place-kinds.ps step-in-place-kinds.r {A = Network} (λ κs e. e.0.now) step-in-place.Post
+step-in-place-only κs a x y e f p q = (ap (λ (o : Stepped). o.answer) (p ∙ sym q), ap (λ (o : Stepped). o.network) (p ∙ sym q))

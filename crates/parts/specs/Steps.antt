@@ -13,12 +13,20 @@ parts_at s i j =
 abbrev pub put_back : Network → ℕ → ℕ → Parts → Network
 put_back s i j x = record { panels = set s.panels j x.panel; rows = set (set s.rows i x.from) j x.own; down = x.down }
 
+-- what a step on the parts at places i and j comes to, put back
+abbrev pub back : Network → ℕ → ℕ → Moved → Stepped
+back s i j a = record { network = put_back s i j a.parts; answer = a.answer }
+
 -- the parts of s for step m, moved
 abbrev pub moved_in : Network → Step → Moved
 moved_in s m = moved (parts_at s (sender_of m (writer_of s)) (actor_of m (writer_of s))) m
 
 abbrev pub put_back_for : Network → Step → Parts → Network
 put_back_for s m x = put_back s (sender_of m (writer_of s)) (actor_of m (writer_of s)) x
+
+-- step m of s by its parts
+abbrev pub by_parts : Network → Step → Stepped
+by_parts s m = back s (sender_of m (writer_of s)) (actor_of m (writer_of s)) (moved_in s m)
 
 -- the step of a network in form
 unfoldable pub step_in : Network → Step → Stepped

@@ -1,7 +1,7 @@
 // One step on the parts of a network that it touches: the panel that acts, the channels that leave it, those that a message comes from,
 // and which panels are down. Every call here takes any parts and any numbers. Nothing here knows how a panel does its work.
 //
-// A network is large; whoever holds one takes the parts out, moves them, and puts them back.
+// A network is large; whoever holds one lends it, and the parts are taken out, moved and put back in place.
 #![tactic(auto)]
 
 ghost use Rattle.std.specs.Prelude.{◌≡◌, true, false, ◌+◌, ◌-◌, ◌<◌, get_or, set};
@@ -10,10 +10,12 @@ ghost use Rattle.promise.specs.View.{code_of};
 ghost use Rattle.house.specs.NetForm.{may_be_down, downs_in};
 ghost use Rattle.steps.specs.Steps.{is_pair, comes};
 ghost use Rattle.parts.specs.Acting.{place_within, actor_of, sender_of, with_from, with_down, moved_by, settled, written, begun, delivered, lost, moved};
+ghost use Rattle.parts.specs.Steps.{by_parts};
 
 use basics::{Kind, Refusal, both};
 use channels::Row;
 use events::{Answer, Finished};
+use house::Network;
 use panel::{Next, Panel};
 
 // A start of a write of a value, or of a read by a panel; a delivery of a message of a kind, by the numbers of its two panels; power loss
@@ -265,4 +267,34 @@ pub fn act(x: Parts, m: Step) -> Moved
             parts: x,
         },
     }
+}
+
+// ---- in place
+
+// The step of a network, made on it: the parts that the step touches are taken out, moved and put back, and all else stays where it is.
+pub fn step_in_place(s: &mut Network, m: Step) -> Answer
+    ensures { record { network = s.new; answer = result } ≡ by_parts s.old m }
+{
+    let first = s.panels[0];
+    let f = first.tables;
+    let to = actor(m, f.writer);
+    let from = sender(m, f.writer);
+    let down = s.down;
+    let x = Parts {
+        n: f.n,
+        t: f.t,
+        writer: f.writer,
+        down,
+        panel: s.panels[to],
+        from: s.rows[from],
+        own: s.rows[to],
+    };
+    let moved = act(x, m);
+    let y = moved.parts;
+    s.panels[to] = y.panel;
+    s.rows[from] = y.from;
+    s.rows[to] = y.own;
+    let down = y.down;
+    s.down = down;
+    moved.answer
 }

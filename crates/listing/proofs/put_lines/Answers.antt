@@ -22,10 +22,10 @@ pub next_turn-turn-requires : goal.next_turn-turn-requires
 next_turn-turn-requires c = omega (arith, step-few _ _ c.loop-b.invariant c.requires, c.loop-b.invariant.few)
 
 pub loop-b-smaller : goal.loop-b-smaller
-loop-b-smaller c = fewer-left _ _ c.loop-b.invariant _ c.in-Some.is (turn-next _ _ c.loop-b.b (λ e. (c.loop-b.invariant.holds e).good) c.next_turn-turn.ensures c.sender-from.ensures.0 c.actor-to.ensures.0 c.act-moved.ensures c.after_turn-b.ensures)
+loop-b-smaller c = fewer-left _ _ c.loop-b.invariant _ c.in-Some.is (turn-next _ _ c.loop-b.b (λ e. (c.loop-b.invariant.holds e).good) c.next_turn-turn.ensures c.step_in_place-answer.ensures c.after_turn-b.ensures)
 
 pub loop-b-preserved : goal.loop-b-preserved
-loop-b-preserved c = lays-next _ _ c.loop-b.invariant _ c.in-Some.is c.put_line-at.ensures (turn-next _ _ c.loop-b.b (λ e. (c.loop-b.invariant.holds e).good) c.next_turn-turn.ensures c.sender-from.ensures.0 c.actor-to.ensures.0 c.act-moved.ensures c.after_turn-b.ensures)
+loop-b-preserved c = lays-next _ _ c.loop-b.invariant _ c.in-Some.is c.put_line-at.ensures (turn-next _ _ c.loop-b.b (λ e. (c.loop-b.invariant.holds e).good) c.next_turn-turn.ensures c.step_in_place-answer.ensures c.after_turn-b.ensures)
 
 pub shape_of-out : goal.shape_of-out
 shape_of-out c = put-long (lays_all _ _ c.loop-b.invariant c.in_default.is (header-area c.first_line-first.ensures c.put_all-at.ensures))
