@@ -1,10 +1,8 @@
 -- What a network's call comes to for a caller in another language: bytes with the next network and, behind it, the answer.
 -- Assumes nothing.
-use Rattle.std.specs.Prelude.{ℕ, List, [], ◌∷◌, ◌++◌, false, replicate, Option, Some, None, Result, Ok, Err}
+use Rattle.std.specs.Prelude.{ℕ, List, [], ◌∷◌, ◌++◌, Option, Some, None, Result, Ok, Err}
 use Rattle.basics.specs.{Refusal.{number_of, code}, declared.refused.Refusal.Refusal}
-use Rattle.panel.specs.Calls.{nothing}
-use Rattle.channels.specs.Channels.{empty_row}
-use Rattle.house.specs.declared.{InFlight.InFlight, Network.Network}
+use Rattle.house.specs.declared.InFlight.{InFlight}
 use Rattle.steps.specs.declared.{Drained.Drained, Stepped.Stepped}
 use Rattle.conveyed.specs.Networks.{network_bytes}
 use Rattle.compared.specs.Reported.{answer_bytes}
@@ -25,7 +23,3 @@ found_bytes (Some x) = 1 ∷ x.sender ∷ x.receiver ∷ x.kind ∷ []
 unfoldable pub sought_bytes : Result (Option InFlight) Refusal → List ℕ
 sought_bytes (Ok found) = 0 ∷ found_bytes found
 sought_bytes (Err r) = number_of r ∷ found_bytes None
-
--- a network of zeros, as set-up would make it of nothing
-unfoldable pub no_network : Network
-no_network = record { panels = replicate 7 nothing; rows = replicate 7 empty_row; down = replicate 7 false }

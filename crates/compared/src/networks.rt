@@ -9,12 +9,11 @@ ghost use Rattle.steps.specs.Search.{sought};
 ghost use Rattle.steps.specs.Drain.{counted, drained};
 ghost use Rattle.steps.specs.SetUp.{fresh_network, set_up};
 ghost use Rattle.conveyed.specs.Networks.{network_from, network_bytes};
-ghost use Rattle.compared.specs.Stepping.{stepped_bytes, drained_bytes, sought_bytes, no_network};
+ghost use Rattle.compared.specs.Stepping.{stepped_bytes, drained_bytes, sought_bytes};
 
 use crate::{code, put_answer};
 use basics::{Refusal, byte_if};
-use house::{InFlight, Network};
-use panel::Panel;
+use house::InFlight;
 use steps::Stepped;
 
 fn put_stepped(o: Stepped, out: &mut [u8])
@@ -37,18 +36,6 @@ fn sought_bytes(sought: Result<Option<InFlight>, Refusal>) -> [u8; 5]
     }
 }
 
-// A network of zeros: what a refused set-up leaves.
-#[tactic(auto, unfolding(crate::specs::Stepping::no_network))]
-fn nothing() -> Network
-    ensures { result ≡ no_network }
-{
-    Network {
-        panels: [Panel::nothing(); 7],
-        rows: [channels::empty_row(); 7],
-        down: [false; 7],
-    }
-}
-
 #[tactic(auto, using(crate::proofs::Stepping::setting_up))]
 #[unsafe(no_mangle)]
 pub extern "C" fn compared_network_set_up(
@@ -61,7 +48,7 @@ pub extern "C" fn compared_network_set_up(
     ensures { (result ≡ code (set_up n t writer initial)) × (out.new ≡ sets out.old 0 (network_bytes (fresh_network n t writer initial))) }
 {
     let made = network::set_up(n, t, writer, initial);
-    let s = made.unwrap_or(nothing());
+    let s = made.unwrap_or(network::nothing());
     conveyed::network_into(s, out);
     code(made)
 }
