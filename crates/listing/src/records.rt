@@ -1,5 +1,5 @@
 // What each record comes to: the line that it gives, the step that it is, and where the bench then stands.
-ghost use Rattle.std.specs.Prelude.{◌≡◌, ◌≢◌, ◌<◌, Ok, Err};
+ghost use Rattle.std.specs.Prelude.{◌≡◌, ◌<◌, Ok, Err};
 ghost use Rattle.house.specs.Search.{flying, first_in};
 ghost use Rattle.steps.specs.SetUp.{no_network};
 ghost use Rattle.listing.specs.Entries.{panels_of, noted, entry, misplaced, unread, told, delivery_of, drain, drain_entry};
@@ -139,10 +139,9 @@ fn steps(step: Step, r: Record, ahead: Ahead) -> Turn
     }
 }
 
-// The step of a record other than set-up and drain.
+// The step of a record; set-up and drain are none, and what this gives for them is not used.
 #[tactic(auto, unfolding(crate::specs::Turning::step_of, basics::specs::Choice::ite, basics::specs::Choice::both))]
 fn step_of(r: Record) -> Step
-    requires { r.kind ≢ 0 }
     ensures { result ≡ step_of r }
 {
     match r.kind {

@@ -148,8 +148,14 @@ pub fn read(s: Network, i: u8) -> Stepped
 pub fn deliver(s: Network, kind: u8, i: u8, j: u8) -> Stepped
     ensures { result ≡ delivered s kind i j }
 {
-    let (from, to) = (i, j);
-    step(s, Step::Deliver { kind, from, to })
+    step(
+        s,
+        Step::Deliver {
+            kind,
+            from: i,
+            to: j,
+        },
+    )
 }
 
 #[tactic(auto, unfolding(parts::specs::Steps::step_in))]

@@ -10,7 +10,7 @@ use Rattle.panel.specs.{Calls.after, declared.Next.Next, declared.Panel.Panel}
 use Rattle.channels.specs.{Channels.{has, value_in, channel_at}, Posting.{posted_all, taken}, declared.Posted.Posted, declared.Row.Row}
 use Rattle.house.specs.NetForm.{may_be_down, downs_in}
 use Rattle.steps.specs.Steps.{is_pair, comes}
-use Rattle.parts.specs.declared.{Done.Done, Moved.Moved, Parts.Parts, Step.Step, Step.TheVariants.{Write, Read, Deliver, Lose, Rest}}
+use Rattle.parts.specs.declared.{Accepted.Accepted, Moved.Moved, Parts.Parts, Step.Step, Step.TheVariants.{Write, Read, Deliver, Lose, Rest}}
 
 -- ---- places
 
@@ -55,7 +55,7 @@ abbrev pub refused_by : Parts → Refusal → Moved
 refused_by x r = record { answer = Err r; parts = x }
 
 -- what a step comes to, refused or not
-abbrev pub moved_by : Parts → Result Done Refusal → Moved
+abbrev pub moved_by : Parts → Result Accepted Refusal → Moved
 moved_by x (Ok d) = record { answer = Ok d.finished; parts = d.parts }
 moved_by x (Err r) = refused_by x r
 

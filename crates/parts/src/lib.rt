@@ -12,7 +12,7 @@ ghost use Rattle.steps.specs.Steps.{is_pair, comes};
 ghost use Rattle.parts.specs.Acting.{place_within, actor_of, sender_of, with_from, with_down, moved_by, settled, written, begun, delivered, lost, moved};
 ghost use Rattle.parts.specs.Steps.{by_parts};
 
-use basics::{Kind, Refusal, both};
+use basics::{Kind, Refusal};
 use channels::Row;
 use events::{Answer, Finished};
 use house::Network;
@@ -43,7 +43,7 @@ pub struct Parts {
 
 // What a step that is not refused comes to.
 #[derive(Clone, Copy)]
-struct Done {
+struct Accepted {
     finished: Option<Finished>,
     parts: Parts,
 }
@@ -108,11 +108,11 @@ pub fn sender(m: Step, writer: u8) -> usize
 // ---- what is tried
 
 // Two different panels.
-#[tactic(auto, unfolding(steps::specs::Steps::is_pair))]
+#[tactic(auto, unfolding(steps::specs::Steps::is_pair, basics::specs::Choice::both))]
 fn is_pair(n: u8, i: u8, j: u8) -> bool
     ensures { result ≡ is_pair n i j }
 {
-    both(form::is_panel(n, i), both(form::is_panel(n, j), i != j))
+    form::is_panel(n, i) && form::is_panel(n, j) && i != j
 }
 
 fn is_down(down: [bool; 7], i: u8) -> bool
@@ -163,13 +163,13 @@ pub fn code_of(a: Answer) -> u8
 
 // The panel has come to q, and what it sends goes into its channels; `from` are the sender's channels afterwards.
 #[tactic(auto, using(basics::proofs::Refusals::in_turn), unfolding(crate::specs::Acting::settled, basics::specs::Refusal::unless, basics::specs::Refusal::met, basics::specs::Choice::ite))]
-fn settle(x: Parts, from: Row, q: Next) -> Result<Done, Refusal>
+fn settle(x: Parts, from: Row, q: Next) -> Result<Accepted, Refusal>
     ensures { moved_by x result ≡ settled x (with_from x from) q }
 {
     let finished = q.answer?;
     let posted = channels::post_all(x.own, q.sends);
     Refusal::ChannelFull.when(!posted.fits)?;
-    Ok(Done {
+    Ok(Accepted {
         finished,
         parts: Parts {
             panel: q.panel,
@@ -196,7 +196,7 @@ fn come(p: Panel, kind: u8, j: u8, v: u32) -> Next
 // ---- the steps
 
 #[tactic(auto, using(basics::proofs::Refusals::in_turn), unfolding(crate::specs::Acting::written, crate::specs::Acting::write_trials, crate::specs::Acting::tried, basics::specs::Refusal::unless))]
-fn write(x: Parts, v: u32) -> Result<Done, Refusal>
+fn write(x: Parts, v: u32) -> Result<Accepted, Refusal>
     ensures { moved_by x result ≡ written x v }
 {
     Refusal::PanelDown.when(is_down(x.down, x.writer))?;
@@ -204,7 +204,7 @@ fn write(x: Parts, v: u32) -> Result<Done, Refusal>
 }
 
 #[tactic(auto, using(basics::proofs::Refusals::in_turn), unfolding(crate::specs::Acting::begun, crate::specs::Acting::read_trials, crate::specs::Acting::tried, basics::specs::Refusal::unless))]
-fn read(x: Parts, i: u8) -> Result<Done, Refusal>
+fn read(x: Parts, i: u8) -> Result<Accepted, Refusal>
     ensures { moved_by x result ≡ begun x i }
 {
     Refusal::NoSuchPanel.when(!form::is_panel(x.n, i))?;
@@ -213,7 +213,7 @@ fn read(x: Parts, i: u8) -> Result<Done, Refusal>
 }
 
 #[tactic(auto, using(basics::proofs::Refusals::in_turn), unfolding(crate::specs::Acting::delivered, crate::specs::Acting::deliver_trials, crate::specs::Acting::tried, basics::specs::Refusal::unless))]
-fn deliver(x: Parts, kind: u8, i: u8, j: u8) -> Result<Done, Refusal>
+fn deliver(x: Parts, kind: u8, i: u8, j: u8) -> Result<Accepted, Refusal>
     ensures { moved_by x result ≡ delivered x kind i j }
 {
     Refusal::NoSuchPanel.when(!is_pair(x.n, i, j))?;
@@ -225,20 +225,20 @@ fn deliver(x: Parts, kind: u8, i: u8, j: u8) -> Result<Done, Refusal>
 }
 
 #[tactic(auto, using(basics::proofs::Refusals::in_turn), unfolding(crate::specs::Acting::lost, crate::specs::Acting::lose_trials, crate::specs::Acting::tried, basics::specs::Refusal::unless))]
-fn lose(x: Parts, i: u8) -> Result<Done, Refusal>
+fn lose(x: Parts, i: u8) -> Result<Accepted, Refusal>
     ensures { moved_by x result ≡ lost x i }
 {
     Refusal::NoSuchPanel.when(!form::is_panel(x.n, i))?;
     Refusal::PanelDown.when(is_down(x.down, i))?;
     Refusal::TooManyDown.when(!one_more_down(x.t, x.down))?;
-    Ok(Done {
+    Ok(Accepted {
         finished: None,
         parts: with_down(x, i),
     })
 }
 
 // Refused, the parts are as they were.
-fn told(x: Parts, done: Result<Done, Refusal>) -> Moved
+fn told(x: Parts, done: Result<Accepted, Refusal>) -> Moved
     ensures { result ≡ moved_by x done }
 {
     match done {
