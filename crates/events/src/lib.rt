@@ -14,7 +14,7 @@ use tables::WriteNo;
 pub use take::write_from_done;
 
 // What an operation that ends comes to: the number of the finished write; the number and value read.
-#[derive(Clone, Copy)]
+#[derive(Clone, Copy, Debug, PartialEq, Eq)]
 pub enum Finished {
     Wrote(WriteNo),
     Gave(WriteNo, u32),

@@ -9,7 +9,7 @@ ghost use Rattle.refusals.specs.Refusals.Event.{write, read, read_from, proceed_
 
 use crate::look::{looked_at, with_operation};
 use crate::{Done, Ruled};
-use basics::{Refusal, wide};
+use basics::{Kind, Refusal, wide};
 use form::{Operation, Tables};
 use messages::{Cast, Sends, no_cast};
 use refusals::{refused_proceed_from, refused_read, refused_read_from, refused_write};
@@ -116,7 +116,7 @@ fn read_rule(p: Tables) -> Ruled
 {
     let c = Cast {
         to: tables::others(p.n, p.number),
-        kind: 2,
+        kind: Kind::Read.byte(),
         value: 0,
     };
     Ruled {

@@ -71,11 +71,7 @@ fn take_held(p: Tables, k: usize) -> Took
 {
     let h = p.held[k];
     if h.full {
-        let none = Hold {
-            full: false,
-            value: 0,
-        };
-        let q = with_hold(p, k, none);
+        let q = with_hold(p, k, Hold::EMPTY);
         return take(q, k, h.value);
     }
     Took {

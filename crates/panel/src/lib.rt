@@ -82,43 +82,37 @@ impl Panel {
     pub fn in_form(self) -> bool
         ensures { result ≡ in_form self.tables }
     {
-        let t = self.tables;
-        form::in_form(t)
+        form::in_form(self.tables)
     }
 
     pub fn after_write(self, v: u32) -> Next
         ensures { result ≡ after self (write v) }
     {
-        let t = self.tables;
-        next_of(events::write_done(t, 107, v))
+        next_of(events::write_done(self.tables, 107, v))
     }
 
     pub fn after_read(self) -> Next
         ensures { result ≡ after self read }
     {
-        let t = self.tables;
-        next_of(events::read_done(t, 107))
+        next_of(events::read_done(self.tables, 107))
     }
 
     pub fn after_write_from(self, j: u8, bit: bool, v: u32) -> Next
         ensures { result ≡ after self (write_from j bit v) }
     {
-        let t = self.tables;
-        next_of(events::write_from_done(t, 107, j, bit, v))
+        next_of(events::write_from_done(self.tables, 107, j, bit, v))
     }
 
     pub fn after_read_from(self, j: u8) -> Next
         ensures { result ≡ after self (read_from j) }
     {
-        let t = self.tables;
-        next_of(events::read_from_done(t, 107, j))
+        next_of(events::read_from_done(self.tables, 107, j))
     }
 
     pub fn after_proceed_from(self, j: u8) -> Next
         ensures { result ≡ after self (proceed_from j) }
     {
-        let t = self.tables;
-        next_of(events::proceed_from_done(t, 107, j))
+        next_of(events::proceed_from_done(self.tables, 107, j))
     }
 
     pub fn write(
@@ -131,16 +125,24 @@ impl Panel {
         ensures { record { outcome = result; area = record { receivers = receivers.new; kinds = kinds.new; values = values.new } } ≡ called self (write v) (record { receivers = receivers.old; kinds = kinds.old; values = values.old }) }
     {
         let room = messages::room_of(receivers, kinds, values);
-        let t = self.tables;
-        tell(events::write_done(t, room, v), receivers, kinds, values)
+        tell(
+            events::write_done(self.tables, room, v),
+            receivers,
+            kinds,
+            values,
+        )
     }
 
     pub fn read(self, receivers: &mut [u8], kinds: &mut [u8], values: &mut [u32]) -> Outcome
         ensures { record { outcome = result; area = record { receivers = receivers.new; kinds = kinds.new; values = values.new } } ≡ called self read (record { receivers = receivers.old; kinds = kinds.old; values = values.old }) }
     {
         let room = messages::room_of(receivers, kinds, values);
-        let t = self.tables;
-        tell(events::read_done(t, room), receivers, kinds, values)
+        tell(
+            events::read_done(self.tables, room),
+            receivers,
+            kinds,
+            values,
+        )
     }
 
     pub fn write_from(
@@ -155,9 +157,8 @@ impl Panel {
         ensures { record { outcome = result; area = record { receivers = receivers.new; kinds = kinds.new; values = values.new } } ≡ called self (write_from j bit v) (record { receivers = receivers.old; kinds = kinds.old; values = values.old }) }
     {
         let room = messages::room_of(receivers, kinds, values);
-        let t = self.tables;
         tell(
-            events::write_from_done(t, room, j, bit, v),
+            events::write_from_done(self.tables, room, j, bit, v),
             receivers,
             kinds,
             values,
@@ -174,8 +175,12 @@ impl Panel {
         ensures { record { outcome = result; area = record { receivers = receivers.new; kinds = kinds.new; values = values.new } } ≡ called self (read_from j) (record { receivers = receivers.old; kinds = kinds.old; values = values.old }) }
     {
         let room = messages::room_of(receivers, kinds, values);
-        let t = self.tables;
-        tell(events::read_from_done(t, room, j), receivers, kinds, values)
+        tell(
+            events::read_from_done(self.tables, room, j),
+            receivers,
+            kinds,
+            values,
+        )
     }
 
     pub fn proceed_from(
@@ -188,9 +193,8 @@ impl Panel {
         ensures { record { outcome = result; area = record { receivers = receivers.new; kinds = kinds.new; values = values.new } } ≡ called self (proceed_from j) (record { receivers = receivers.old; kinds = kinds.old; values = values.old }) }
     {
         let room = messages::room_of(receivers, kinds, values);
-        let t = self.tables;
         tell(
-            events::proceed_from_done(t, room, j),
+            events::proceed_from_done(self.tables, room, j),
             receivers,
             kinds,
             values,
