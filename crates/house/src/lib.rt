@@ -136,12 +136,6 @@ pub fn in_form(s: Network) -> bool
 
 // ---- the search
 
-fn hit(down: bool, there: bool) -> bool
-    ensures { result ≡ both (not down) there }
-{
-    both(!down, there)
-}
-
 // The first message in flight to a live panel, by sender, then receiver, then kind.
 #[tactic(auto, using(crate::proofs::Turns::search_turns))]
 pub fn first_in_flight(rows: [Row; 7], down: [bool; 7]) -> Option<InFlight>
@@ -154,7 +148,7 @@ pub fn first_in_flight(rows: [Row; 7], down: [bool; 7]) -> Option<InFlight>
             let c = row.to[to];
             let off = down[to];
             for kind in 0..4 {
-                if hit(off, channels::has(c, kind)) {
+                if !off && channels::has(c, kind) {
                     found = Some(InFlight {
                         sender: (from + 1) as u8,
                         receiver: (to + 1) as u8,
