@@ -61,9 +61,7 @@ impl Setting {
     fn member_ok(self, p: Panel, number: u8) -> bool
         ensures { result ≡ member_with p.tables self.n self.t self.writer self.initial number }
     {
-        let form = p.in_form();
-        let q = &p.tables;
-        both(form, both(Setting::of(q) == self, q.number == number))
+        p.in_form() && Setting::of(&p.tables) == self && p.tables.number == number
     }
 
     // What stands at place i: one of the n panels, or nothing.
@@ -80,10 +78,11 @@ impl Setting {
     }
 }
 
+#[tactic(auto, unfolding(basics::specs::Choice::both))]
 fn nothing_at(p: Panel, down: bool) -> bool
     ensures { result ≡ both (unused p.tables) (not down) }
 {
-    both(unused::unused(p.tables), !down)
+    unused::unused(p.tables) && !down
 }
 
 #[tactic(auto, using(crate::proofs::Turns::all_turns), unfolding(crate::specs::NetForm::place_ok, events::specs::Rules::value_of))]
