@@ -73,8 +73,8 @@ fn place_ok(p: &Tables, j: usize) -> bool
     let idle = choose(choose(past, true, j == own), quiet, true);
     let zero = choose(past, both(w.0 == 0, r.0 == 0), true);
     both(
-        w.0 <= p.w[own].0,
-        both(r.0 <= p.r[own].0, both(hold, both(line, both(idle, zero)))),
+        w <= p.w[own],
+        both(r <= p.r[own], both(hold, both(line, both(idle, zero)))),
     )
 }
 
@@ -98,7 +98,7 @@ fn operation_ok(o: Operation, at_writer: bool, x: WriteNo, y: ReadNo) -> bool
         Operation::Idle => true,
         Operation::Writing => at_writer && 1 <= x.0,
         Operation::FirstWait => 1 <= y.0,
-        Operation::SecondWait(sn) => 1 <= y.0 && sn.0 <= x.0,
+        Operation::SecondWait(sn) => 1 <= y.0 && sn <= x,
     }
 }
 
@@ -119,16 +119,6 @@ pub fn in_form(p: Tables) -> bool
         && operation_ok(p.operation, p.number == p.writer, w, r)
 }
 
-const NO_HOLD: Hold = Hold {
-    full: false,
-    value: 0,
-};
-
-const EMPTY_LINE: Line = Line {
-    len: 0,
-    sn: [WriteNo(0); 100],
-};
-
 #[tactic(auto, unfolding(crate::specs::Form::fresh, crate::specs::Form::empty_line))]
 pub fn fresh(n: u8, t: u8, writer: u8, number: u8, initial: u32) -> Tables
     ensures { result ≡ fresh n t writer number initial }
@@ -143,8 +133,8 @@ pub fn fresh(n: u8, t: u8, writer: u8, number: u8, initial: u32) -> Tables
         w: [WriteNo(0); 7],
         r: [ReadNo(0); 7],
         history,
-        held: [NO_HOLD; 7],
-        lines: [EMPTY_LINE; 7],
+        held: [Hold::EMPTY; 7],
+        lines: [Line::EMPTY; 7],
         operation: Operation::Idle,
     }
 }

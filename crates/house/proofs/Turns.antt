@@ -6,7 +6,7 @@ use Rattle.std.specs.Prelude.{Option, Some}
 use Rattle.std.specs.Option.{option_or}
 use native.Mathlib.{Nat.{not-suc-le-zero, eq-or-lt_of_le, le_of_suc-le-suc}, Numerals.add-one}
 pub use Rattle.basics.proofs.Below.{all-next}
-use Rattle.basics.{proofs.Choices.{ite-true, ite-false}, specs.Below.all_below, specs.Choice.{both}}
+use Rattle.basics.{proofs.Choices.{ite-true, ite-false, both_true, both-false-left, both-false-right}, specs.Below.all_below}
 use Rattle.channels.specs.Channels.{has}
 use Rattle.house.specs.{Places.{channel_of, down_at}, Search.{nowhere, live, first_below, spot_at, of_pair, of_sender, first_in}}
 use Rattle.house.specs.declared.{InFlight.InFlight, Network.Network}
@@ -62,25 +62,26 @@ all_none s end none = ap (λ (e : ℕ). first_below e (of_sender s)) (sym end) �
 abbrev pub spot : ℕ → ℕ → ℕ → InFlight
 spot i j k = record { sender = i + 1; receiver = j + 1; kind = k }
 
--- t and r are what the channel has, and whether that is found, as the code holds them
-module _ (s : Network) (i j k : ℕ) {t r : Bool} (there : t ≡ has (channel_of s i j) k) (found : r ≡ both (not (down_at s j)) t) where
-  tested : r ≡ both (live s j) (has (channel_of s i j) k)
-  unfolding live
-  tested = found ∙ ap (both (not (down_at s j))) there
+module _ (s : Network) (i j k : ℕ) where
+  pub spot-down : down_at s j ≡ true → spot_at s i j k ≡ nowhere
+  unfolding spot_at live
+  spot-down e = ite-false _ _ (both-false-left _ (ap not e))
 
-  pub spot-miss : r ≡ false → spot_at s i j k ≡ nowhere
-  unfolding spot_at
-  spot-miss e = ite-false _ _ (sym tested ∙ e)
+  -- t is what the channel has, as the code holds it
+  module _ {t : Bool} (there : t ≡ has (channel_of s i j) k) where
+    pub spot-gone : t ≡ false → spot_at s i j k ≡ nowhere
+    unfolding spot_at
+    spot-gone e = ite-false _ _ (both-false-right _ (sym there ∙ e))
 
-  pub spot-hit : r ≡ true → spot_at s i j k ≡ Some (spot i j k)
-  unfolding spot_at
-  spot-hit e = ite-true _ _ (sym tested ∙ e)
+    pub spot-hit : down_at s j ≡ false → t ≡ true → spot_at s i j k ≡ Some (spot i j k)
+    unfolding spot_at live
+    spot-hit d e = ite-true _ _ (both_true (ap not d) (sym there ∙ e))
 
-  pub hit-is :
-      i < 7 → j < 7 → k < 4 → first_below i (of_sender s) ≡ nowhere → first_below j (of_pair s i) ≡ nowhere → first_below k (spot_at s i j) ≡ nowhere →
-      r ≡ true → first_in s ≡ Some (spot i j k)
-  unfolding first_in of_sender of_pair
-  hit-is hi hj hk ei ej ek e =
-      first-hit 7 i (of_sender s) hi ei (first-hit 7 j (of_pair s i) hj ej (first-hit 4 k (spot_at s i j) hk ek (spot-hit e)))
+    pub hit-is :
+        i < 7 → j < 7 → k < 4 → first_below i (of_sender s) ≡ nowhere → first_below j (of_pair s i) ≡ nowhere → first_below k (spot_at s i j) ≡ nowhere →
+        down_at s j ≡ false → t ≡ true → first_in s ≡ Some (spot i j k)
+    unfolding first_in of_sender of_pair
+    hit-is hi hj hk ei ej ek d e =
+        first-hit 7 i (of_sender s) hi ei (first-hit 7 j (of_pair s i) hj ej (first-hit 4 k (spot_at s i j) hk ek (spot-hit d e)))
 
-pub ruleset search_turns = (first-none, first_next, pair-none, sender-none, all_none, spot-miss)
+pub ruleset search_turns = (first-none, first_next, pair-none, sender-none, all_none, spot-down, spot-gone)

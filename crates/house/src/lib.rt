@@ -5,13 +5,15 @@
 ghost use Rattle.std.specs.Prelude.{◌≡◌, true, not, ◌≤◌, ◌<◌};
 ghost use Rattle.basics.specs.Choice.{both};
 ghost use Rattle.basics.specs.Below.{all_below};
+ghost use Rattle.events.specs.Rules.{value_of};
 ghost use Rattle.unused.specs.Unused.{unused};
 ghost use Rattle.house.specs.NetForm.{member_with, place_with, place_ok, channels_ok, downs_in, may_be_down, net_form};
 ghost use Rattle.house.specs.Search.{flying, first_in};
 ghost use Rattle.house.specs.Whole.{Whole};
 
-use basics::{both, wide};
+use basics::both;
 use channels::Row;
+use form::Tables;
 use panel::Panel;
 
 // Place 0 is panel 1; a row holds the channels that leave its panel.
@@ -31,7 +33,7 @@ pub struct InFlight {
 }
 
 // What the panels of a network agree on.
-#[derive(Clone, Copy)]
+#[derive(Clone, Copy, PartialEq)]
 struct Setting {
     n: u8,
     t: u8,
@@ -42,25 +44,24 @@ struct Setting {
 // ---- in form
 
 impl Setting {
-    #[tactic(auto, unfolding(crate::specs::NetForm::member_with, events::specs::Rules::value_of))]
+    // As one panel has it.
+    #[tactic(auto, unfolding(events::specs::Rules::value_of))]
+    fn of(p: &Tables) -> Setting
+        ensures { result ≡ record { n = p.now.n; t = p.now.t; writer = p.now.writer; initial = value_of p.now 0 } }
+    {
+        Setting {
+            n: p.n,
+            t: p.t,
+            writer: p.writer,
+            initial: p.history[0],
+        }
+    }
+
+    #[tactic(auto, unfolding(crate::specs::NetForm::member_with, basics::specs::Choice::both))]
     fn member_ok(self, p: Panel, number: u8) -> bool
         ensures { result ≡ member_with p.tables self.n self.t self.writer self.initial number }
     {
-        let form = p.in_form();
-        let q = p.tables;
-        both(
-            form,
-            both(
-                q.n == self.n,
-                both(
-                    q.t == self.t,
-                    both(
-                        q.writer == self.writer,
-                        both(q.history[0] == self.initial, q.number == number),
-                    ),
-                ),
-            ),
-        )
+        p.in_form() && Setting::of(&p.tables) == self && p.tables.number == number
     }
 
     // What stands at place i: one of the n panels, or nothing.
@@ -69,7 +70,7 @@ impl Setting {
         requires { i < 7 }
         ensures { result ≡ place_with p.tables down self.n self.t self.writer self.initial i }
     {
-        if i < wide(self.n) {
+        if i < usize::from(self.n) {
             self.member_ok(p, (i + 1) as u8)
         } else {
             nothing_at(p, down)
@@ -77,23 +78,18 @@ impl Setting {
     }
 }
 
+#[tactic(auto, unfolding(basics::specs::Choice::both))]
 fn nothing_at(p: Panel, down: bool) -> bool
     ensures { result ≡ both (unused p.tables) (not down) }
 {
-    both(unused::unused(p.tables), !down)
+    unused::unused(p.tables) && !down
 }
 
 #[tactic(auto, using(crate::proofs::Turns::all_turns), unfolding(crate::specs::NetForm::place_ok, events::specs::Rules::value_of))]
 fn places_ok(s: Network) -> bool
     ensures { result ≡ all_below 7 (place_ok s) }
 {
-    let first = &s.panels[0].tables;
-    let setting = Setting {
-        n: first.n,
-        t: first.t,
-        writer: first.writer,
-        initial: first.history[0],
-    };
+    let setting = Setting::of(&s.panels[0].tables);
     let mut ok = true;
     for i in 0..7 {
         ok = both(ok, setting.place_ok(s.panels[i], s.down[i], i));
@@ -125,28 +121,19 @@ pub fn downs(down: [bool; 7]) -> usize
 pub fn may_be_down(t: u8, m: usize) -> bool
     ensures { result ≡ may_be_down t m }
 {
-    m <= wide(t)
+    m <= usize::from(t)
 }
 
-#[tactic(auto, unfolding(crate::specs::NetForm::net_form))]
+#[tactic(auto, unfolding(crate::specs::NetForm::net_form, basics::specs::Choice::both))]
 pub fn in_form(s: Network) -> bool
     ensures { result ≡ net_form s }
 {
     let n = s.panels[0].tables.n;
     let t = s.panels[0].tables.t;
-    let rows = rows_ok(s);
-    let few = may_be_down(t, downs(s.down));
-    let places = places_ok(s);
-    both(1 <= n, both(places, both(few, rows)))
+    1 <= n && places_ok(s) && may_be_down(t, downs(s.down)) && rows_ok(s)
 }
 
 // ---- the search
-
-fn hit(down: bool, there: bool) -> bool
-    ensures { result ≡ both (not down) there }
-{
-    both(!down, there)
-}
 
 // The first message in flight to a live panel, by sender, then receiver, then kind.
 #[tactic(auto, using(crate::proofs::Turns::search_turns))]
@@ -160,7 +147,7 @@ pub fn first_in_flight(rows: [Row; 7], down: [bool; 7]) -> Option<InFlight>
             let c = row.to[to];
             let off = down[to];
             for kind in 0..4 {
-                if hit(off, channels::has(c, kind)) {
+                if !off && channels::has(c, kind) {
                     found = Some(InFlight {
                         sender: (from + 1) as u8,
                         receiver: (to + 1) as u8,

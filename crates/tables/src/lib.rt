@@ -17,7 +17,7 @@ use std::array;
 pub struct WriteNo(pub u8);
 
 // Own reads, or the PROCEEDs of a peer. Never counted or compared as a write number.
-#[derive(Clone, Copy, Debug, PartialEq, Eq)]
+#[derive(Clone, Copy, Debug, PartialEq, Eq, PartialOrd, Ord)]
 pub struct ReadNo(pub u8);
 
 // A held WRITE of a peer, if there is one.
@@ -40,6 +40,14 @@ impl Hold {
 pub struct Line {
     pub len: u8,
     pub sn: [WriteNo; 100],
+}
+
+impl Line {
+    // Nothing waits.
+    pub const EMPTY: Line = Line {
+        len: 0,
+        sn: [WriteNo(0); 100],
+    };
 }
 
 // ---- form
