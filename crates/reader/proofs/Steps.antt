@@ -1,11 +1,11 @@
 -- How the place of a reader moves, whatever is read: a refusal leaves it (`refused-stays`), an item moves it behind its last byte
--- (`accepted-moves`), and no step passes the end (`never-past`).
+-- (`accepted-moves`), no step passes the end (`never-past`), and neither does what is read (`read-within`).
 -- Assumes nothing.
-use mathlib.Core.{List.List, Path.{◌≡◌, refl, ap, ◌∙◌}}
+use mathlib.Core.{List.List, Path.{◌≡◌, refl, sym, ap, ◌∙◌}}
 use Prim.Native.Nat.{ℕ, ◌+◌, ◌≤◌}
 use native.Mathlib.{Nat.add-zero, Omega.arith}
 use lib.ListN.{length}
-use Rattle.std.specs.Prelude.{Result, Ok, Err}
+use Rattle.std.specs.Prelude.{Result, Ok, Err, IfOk}
 use Rattle.reader.specs.{Reading.{used_of, stepped, moved_to, next}, declared.Reader.Reader, declared.Step.Step}
 
 module _ {T E : Type 0} (reading : List ℕ → ℕ → Result T E) (used : T → ℕ) where
@@ -23,6 +23,13 @@ module _ {T E : Type 0} (reading : List ℕ → ℕ → Result T E) (used : T �
       by : (r : Result T E) → reading s at ≡ r → (stepped reading used s at).at ≤ length s
       by (Ok i) e = omega (arith, accepted-moves s at i e, within s at i e)
       by (Err x) e = omega (arith, refused-stays s at x e)
+
+  -- as a clause of what a call gives
+  pub read-within :
+      ((s : List ℕ) (at : ℕ) (i : T) → reading s at ≡ Ok i → at + used i ≤ length s) → (s : List ℕ) (at : ℕ) (r : Result T E) → r ≡ reading s at →
+      IfOk r (λ (i : T). at + used i ≤ length s)
+  read-within within s at (Ok i) e = within s at i (sym e)
+  read-within within s at (Err x) e = tt
 
   -- what the reader's call gives, from the step
   pub next-by-step :

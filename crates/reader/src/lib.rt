@@ -2,7 +2,7 @@
 // refusal leaves the place where it is. `records` reads schedule records, `wire_messages` messages on the wire.
 #![tactic(auto)]
 
-ghost use Rattle.std.specs.Prelude.{◌≡◌, ◌+◌, ◌≤◌, ℕ, List, length, Result, Ok};
+ghost use Rattle.std.specs.Prelude.{◌≡◌, ◌+◌, ◌≤◌, ℕ, List, length, Result, IfOk};
 ghost use Rattle.reader.specs.Reading.{Next, stepped, started, next};
 
 pub mod records;
@@ -16,14 +16,13 @@ pub(crate) trait Item: Copy {
 
     ghost used: { Self → ℕ };
 
+    // No item passes the end.
     fn read(bytes: &[u8], at: usize) -> Result<Self, Self::Refused>
-        ensures { result ≡ reading bytes.now at };
+        ensures reads { result ≡ reading bytes.now at }
+        ensures within { IfOk result (λ i. at + used i ≤ length bytes.now) };
 
     fn used(self) -> usize
         ensures { result ≡ used self };
-
-    // No item passes the end.
-    ghost within: { (s : List ℕ) (at : ℕ) (i : Self) → reading s at ≡ Ok i → at + used i ≤ length s };
 }
 
 #[derive(Clone, Copy, Debug, PartialEq, Eq)]

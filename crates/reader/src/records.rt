@@ -1,7 +1,6 @@
 // Schedule records. `next` is called on a reader; `record_at` takes a plain slice and a place, for callers that keep no reader.
 ghost use Rattle.std.specs.Prelude.{◌≡◌};
 ghost use Rattle.schedule.specs.Records.{reading};
-ghost use Rattle.schedule.proofs.Laws.{accepted-within};
 ghost use Rattle.reader.specs.Reading.{Next};
 ghost use Rattle.reader.specs.Records.{used, stepped, next};
 
@@ -15,8 +14,6 @@ impl Item for Taken {
     ghost reading = { reading };
 
     ghost used = { used };
-
-    ghost within = { accepted-within };
 
     fn read(schedule: &[u8], at: usize) -> Result<Taken, Unread> {
         schedule::read_record(schedule, at)

@@ -1,6 +1,5 @@
 // Messages on the wire. `next` is called on a reader; `message_at` takes plain bytes and a place, for callers that keep no reader.
 ghost use Rattle.std.specs.Prelude.{◌≡◌};
-ghost use Rattle.wire.proofs.Laws.{accepted-within};
 ghost use Rattle.reader.specs.Reading.{Next};
 ghost use Rattle.reader.specs.Messages.{reading_at, used, stepped, next};
 
@@ -15,8 +14,6 @@ impl Item for Taken {
     ghost reading = { reading_at };
 
     ghost used = { used };
-
-    ghost within = { accepted-within };
 
     #[tactic(auto, using(crate::proofs::Behind::behind))]
     fn read(bytes: &[u8], at: usize) -> Result<Taken, Refusal> {
