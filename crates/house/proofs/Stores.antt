@@ -1,13 +1,11 @@
 -- What stands at a place of a network after a store: at the place itself and at another place (-ne); that a store keeps the
 -- tables' lengths; and how many are down after one more is.
 -- Assumes nothing.
-use mathlib.Core.{Bool.{Bool, true, false, cond}, List.{List, [], ◌∷◌}, Logic.◌≢◌, Path.{◌≡◌, refl, sym, ap, subst, ◌∙◌}}
+use mathlib.Core.{Bool.{Bool, true, false}, List.List, Logic.◌≢◌, Path.{◌≡◌, refl, sym, ap, subst, ◌∙◌}}
 use Prim.Native.Nat.{ℕ, zero, suc, ◌+◌, ◌≤◌, ◌<◌}
-use native.Mathlib.{Decide.ℕ_discrete, Nat.{not-suc-le-zero, zero-add}, Omega.arith}
-use Rattle.std.specs.List.{count_by}
-use Rattle.std.proofs.lemmas.List.Recursion.{is_count_by}
+use native.Mathlib.{Decide.ℕ_discrete, Nat.not-suc-le-zero, Omega.arith}
 use lib.{ListN.{length, get_or, length-set, get_or-eq_default}, Seq.{get_or-set_same, get_or-set_other}}
-use Rattle.basics.{proofs.Below.{count-alike, count_most}, specs.Below.{one_if, count_below}}
+use Rattle.basics.{proofs.Below.count-alike, specs.Below.{one_if, count_below}}
 use Rattle.form.proofs.Shape.{Shaped}
 use Rattle.panel.specs.declared.Panel.{Panel}
 use Rattle.channels.specs.{Channels.{no_row, no_channel}, declared.Row.Row}
@@ -106,32 +104,6 @@ count-one-more (suc n) f g i h same off on = at (ℕ_discrete n i) (count-one-mo
         let below : count_below n g ≡ count_below n f = count-alike n g f (λ k l. same k (λ q. absurd (omega arith))) in
         rw (ap g e ∙ on, ap f e ∙ off) (omega arith)
     at (no d) lower = rw (same n d) (omega (arith, lower (omega arith) same off on))
-
--- how many pass a test, by the first number
-count-first : (n : ℕ) (f : ℕ → Bool) → count_below (suc n) f ≡ one_if (f 0) + count_below n (λ k. f (suc k))
-unfolding count_below
-count-first zero f = omega arith
-count-first (suc n) f = omega (arith, count-first n f)
-
-count-list : (down : List Bool) → count_below (length down) (λ (i : ℕ). get_or down i false) ≡ count_by (λ d. d) down
-unfolding count_below one_if
-count-list = is_count_by (λ (ds : List Bool). count_below (length ds) (λ (i : ℕ). get_or ds i false)) (λ d. d) none more
-  where
-    none : count_below 0 (λ (i : ℕ). get_or {A = Bool} [] i false) ≡ 0
-    none = refl
-
-    more : (x : Bool) (xs : List Bool) →
-        count_below (length (x ∷ xs)) (λ (i : ℕ). get_or (x ∷ xs) i false)
-        ≡ cond x (1 + count_below (length xs) (λ (i : ℕ). get_or xs i false)) (count_below (length xs) (λ (i : ℕ). get_or xs i false))
-    more true xs = count-first (length xs) (λ (i : ℕ). get_or (true ∷ xs) i false)
-    more false xs = count-first (length xs) (λ (i : ℕ). get_or (false ∷ xs) i false) ∙ zero-add _
-
-pub downs-counted : (down : List Bool) (n : ℕ) → length down ≡ 7 → n ≡ count_by (λ d. d) down → (n ≡ downs_in down) × (n ≤ 7)
-unfolding downs_in
-downs-counted down n long is =
-    let e : n ≡ count_below 7 (λ (i : ℕ). get_or down i false)
-    = is ∙ sym (count-list down) ∙ ap (λ (m : ℕ). count_below m (λ (i : ℕ). get_or down i false)) long in
-    (e, omega (arith, count_most 7 (λ (i : ℕ). get_or down i false)))
 
 module _ (s : Network) (i : ℕ) where
   pub downs-with-panel-kept : (p : Panel) → downs (with_panel s i p) ≡ downs s

@@ -11,7 +11,7 @@ ghost use Rattle.house.specs.NetForm.{member_with, place_with, place_ok, channel
 ghost use Rattle.house.specs.Search.{flying, first_in};
 ghost use Rattle.house.specs.Whole.{Whole};
 
-use basics::both;
+use basics::{both, one_if};
 use channels::Row;
 use form::Tables;
 use panel::Panel;
@@ -109,11 +109,16 @@ fn rows_ok(s: Network) -> bool
     ok
 }
 
-// How many panels are down.
+// How many panels are down. Counted without a branch, since each power loss asks this.
+#[tactic(auto, unfolding(crate::specs::NetForm::downs_in))]
 pub fn downs(down: [bool; 7]) -> usize
     ensures { (result ≡ downs_in down) × (result ≤ 7) }
 {
-    down.iter().filter(|d| **d).count()
+    let mut count = 0;
+    for d in &down {
+        count += one_if(*d);
+    }
+    count
 }
 
 // Whether m panels may be down at once.

@@ -92,7 +92,7 @@ module _ (bytes : List ℕ) (s : Network) where
   -- the step of the turn by the parts of the network is its step in the network; there is none once the bench has ended
   next-acted : (a : Ahead) → (Going a → Good s) → by_parts s (next_turn bytes (first_in s) a).step ≡ step_in s (next_turn bytes (first_in s) a).step
   unfolding next_turn step_in
-  next-acted ahead.Ended good = still_back s
+  next-acted ahead.Ended good = still_back s 0
   next-acted (ahead.Drain at count) good = moved_back s (good-test s (good tt)) _
   next-acted (ahead.Record at) good = moved_back s (good-test s (good tt)) _
 

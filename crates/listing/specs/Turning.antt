@@ -25,7 +25,7 @@ count_of (ahead.Drain at count) = count
 
 -- no step, and the line is known, if there is one
 abbrev pub quiet : Option Line → Ahead → Turn
-quiet l a = record { step = Rest; tells = None; stand = record { line = l; ahead = a } }
+quiet l a = record { step = Rest 0; tells = None; stand = record { line = l; ahead = a } }
 
 -- a step, and the line tells its answer to a record
 abbrev pub steps : Step → Record → Ahead → Turn

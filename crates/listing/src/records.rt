@@ -122,7 +122,7 @@ fn quiet(line: Option<Line>, ahead: Ahead) -> Turn
     ensures { result ≡ quiet line ahead }
 {
     Turn {
-        step: Step::Rest,
+        step: Step::Rest(0),
         tells: None,
         stand: Stand { line, ahead },
     }

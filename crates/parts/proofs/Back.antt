@@ -146,13 +146,13 @@ module _ (s : Network) (f : net_form s ≡ true) where
   moved_back (Read i) = read_back i _ refl
   moved_back (Deliver k i j) = deliver-back k i j refl refl
   moved_back (Lose i) = lose-back i _ _
-  moved_back Rest = ap (λ (x : Network). record { network = x; answer = Ok None }) (unmoved s _ _)
+  moved_back (Rest i) = ap (λ (x : Network). record { network = x; answer = Ok None }) (unmoved s _ _)
 
 -- as the code makes it
 pub step_back : (s : Network) → net_form s ≡ true → (m : Step) → by_parts s m ≡ step_in s m
 step_back s f m = moved_back s f m
 
 -- no step leaves any network as it is
-pub still_back : (s : Network) → by_parts s Rest ≡ record { network = s; answer = Ok None }
+pub still_back : (s : Network) (i : ℕ) → by_parts s (Rest i) ≡ record { network = s; answer = Ok None }
 unfolding moved
-still_back s = ap (λ (x : Network). record { network = x; answer = Ok None }) (unmoved s _ _)
+still_back s i = ap (λ (x : Network). record { network = x; answer = Ok None }) (unmoved s _ _)

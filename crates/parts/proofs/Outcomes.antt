@@ -4,6 +4,10 @@ use mathlib.Core.Path.{sym, ap, ◌∙◌}
 use Rattle.house.specs.declared.Network.{Network}
 use Rattle.steps.specs.declared.Stepped.{Stepped}
 use Rattle.basics.specs.Outcome.{OneResult, OneOutcome}
+use Rattle.parts.proofs.delivery.Kinds as delivery-kinds
+use Rattle.parts.proofs.delivery.Reads as delivery
+use Rattle.parts.proofs.step_at.Kinds as step-at-kinds
+use Rattle.parts.proofs.step_at.Reads as step-at
 use Rattle.parts.proofs.actor.Kinds as actor-kinds
 use Rattle.parts.proofs.actor.Reads as actor
 use Rattle.parts.proofs.sender.Kinds as sender-kinds
@@ -14,6 +18,12 @@ use Rattle.parts.proofs.act.Kinds as act-kinds
 use Rattle.parts.proofs.act.Reads as act
 use Rattle.parts.proofs.step_in_place.Kinds as step-in-place-kinds
 use Rattle.parts.proofs.step_in_place.Reads as step-in-place
+
+pub delivery-only : OneResult 0 delivery-kinds.ps delivery-kinds.r delivery.Post
+delivery-only κs a x y e f p q = p ∙ sym q
+
+pub step-at-only : OneResult 0 step-at-kinds.ps step-at-kinds.r step-at.Post
+step-at-only κs a x y e f p q = p ∙ sym q
 
 pub actor-only : OneResult 0 actor-kinds.ps actor-kinds.r actor.Post
 actor-only κs a x y e f p q = p.0 ∙ sym q.0

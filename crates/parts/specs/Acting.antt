@@ -1,7 +1,7 @@
 -- The network's steps on the parts that they touch: what each is refused for in the order in which it is tried, and the parts afterwards.
 -- That these are the network's own steps is shown in proofs/Back.
 -- Assumes nothing.
-use Rattle.std.specs.Prelude.{ℕ, ◌+◌, ◌-◌, Bool, true, false, not, List, [], ◌∷◌, leb, get_or, set, Result, Ok, Err, None}
+use Rattle.std.specs.Prelude.{ℕ, ◌+◌, ◌-◌, Bool, true, false, not, List, [], ◌∷◌, leb, eqb, get_or, set, Ok, Err, None}
 use Rattle.basics.specs.{Choice.ite, Refusal.{Trial, refuse, met, unless}}
 use Rattle.basics.specs.declared.refused.Refusal.{Refusal, TheVariants.{NoSuchPanel, PanelDown, NothingInFlight, TooManyDown, ChannelFull}}
 use Rattle.form.specs.Form.{is_panel}
@@ -10,7 +10,20 @@ use Rattle.panel.specs.{Calls.after, declared.Next.Next, declared.Panel.Panel}
 use Rattle.channels.specs.{Channels.{has, value_in, channel_at}, Posting.{posted_all, taken}, declared.Posted.Posted, declared.Row.Row}
 use Rattle.house.specs.NetForm.{may_be_down, downs_in}
 use Rattle.steps.specs.Steps.{is_pair, comes}
-use Rattle.parts.specs.declared.{Accepted.Accepted, Moved.Moved, Parts.Parts, Step.Step, Step.TheVariants.{Write, Read, Deliver, Lose, Rest}}
+use Rattle.parts.specs.declared.{Moved.Moved, Parts.Parts, Step.Step, Step.TheVariants.{Write, Read, Deliver, Lose, Rest}}
+
+-- ---- steps by their numbers
+
+abbrev pub delivery_step : ℕ → ℕ → ℕ → Step
+delivery_step k i j = Deliver k i j
+
+-- 1 a start of a write of v, 2 of a read by panel i, 3 a delivery to panel i from nobody, 4 power loss of panel i; else no step
+unfoldable pub step_at : ℕ → ℕ → ℕ → Step
+step_at what i v =
+    ite (eqb what 1) (Write v)
+    (ite (eqb what 2) (Read i)
+    (ite (eqb what 3) (delivery_step 0 0 i)
+    (ite (eqb what 4) (Lose i) (Rest i))))
 
 -- ---- places
 
@@ -24,7 +37,7 @@ actor_of (Write v) writer = place_within writer
 actor_of (Read i) writer = place_within i
 actor_of (Deliver k i j) writer = place_within j
 actor_of (Lose i) writer = place_within i
-actor_of Rest writer = 0
+actor_of (Rest i) writer = place_within i
 
 -- of the sender in a delivery, and else of the panel that acts
 unfoldable pub sender_of : Step → ℕ → ℕ
@@ -32,7 +45,7 @@ sender_of (Write v) writer = actor_of (Write v) writer
 sender_of (Read i) writer = actor_of (Read i) writer
 sender_of (Deliver k i j) writer = place_within i
 sender_of (Lose i) writer = actor_of (Lose i) writer
-sender_of Rest writer = 0
+sender_of (Rest i) writer = actor_of (Rest i) writer
 
 -- ---- the parts with one thing changed
 
@@ -53,11 +66,6 @@ with_down x i =
 
 abbrev pub refused_by : Parts → Refusal → Moved
 refused_by x r = record { answer = Err r; parts = x }
-
--- what a step comes to, refused or not
-abbrev pub moved_by : Parts → Result Accepted Refusal → Moved
-moved_by x (Ok d) = record { answer = Ok d.finished; parts = d.parts }
-moved_by x (Err r) = refused_by x r
 
 unfoldable pub tried : List Trial → Parts → Moved → Moved
 tried ts x a = unless (met ts) a (refused_by x)
@@ -108,4 +116,4 @@ moved x (Write v) = written x v
 moved x (Read i) = begun x i
 moved x (Deliver k i j) = delivered x k i j
 moved x (Lose i) = lost x i
-moved x Rest = record { answer = Ok None; parts = x }
+moved x (Rest i) = record { answer = Ok None; parts = x }

@@ -34,4 +34,4 @@ step_in s (Write v) = write_in s v
 step_in s (Read i) = read_in s i
 step_in s (Deliver k i j) = deliver_in s k i j
 step_in s (Lose i) = lose_in s i
-step_in s Rest = record { network = s; answer = Ok None }
+step_in s (Rest i) = record { network = s; answer = Ok None }

@@ -9,24 +9,24 @@ ghost use Rattle.panel.specs.Calls.{after};
 ghost use Rattle.promise.specs.View.{code_of};
 ghost use Rattle.house.specs.NetForm.{may_be_down, downs_in};
 ghost use Rattle.steps.specs.Steps.{is_pair, comes};
-ghost use Rattle.parts.specs.Acting.{place_within, actor_of, sender_of, with_from, with_down, moved_by, settled, written, begun, delivered, lost, moved};
+ghost use Rattle.parts.specs.Acting.{delivery_step, step_at, place_within, actor_of, sender_of, with_from, settled, written, begun, delivered, lost, moved};
 ghost use Rattle.parts.specs.Steps.{by_parts};
 
 use basics::{Kind, Refusal};
 use channels::Row;
-use events::{Answer, Finished};
+use events::Answer;
 use house::Network;
 use panel::{Next, Panel};
 
 // A start of a write of a value, or of a read by a panel; a delivery of a message of a kind, by the numbers of its two panels; power loss
-// of a panel; or no step.
+// of a panel; or no step, beside which a panel is named all the same.
 #[derive(Clone, Copy, Debug, PartialEq, Eq)]
 pub enum Step {
     Write(u32),
     Read(u8),
     Deliver { kind: u8, from: u8, to: u8 },
     Lose(u8),
-    Rest,
+    Rest(u8),
 }
 
 // The network's n, t and writer, who is down, the panel that acts, the channels that leave the sender, and those that leave the panel.
@@ -41,18 +41,39 @@ pub struct Parts {
     pub own: Row,
 }
 
-// What a step that is not refused comes to.
-#[derive(Clone, Copy)]
-struct Accepted {
-    finished: Option<Finished>,
-    parts: Parts,
-}
-
 // The answer, and the parts afterwards.
 #[derive(Clone, Copy)]
 pub struct Moved {
     pub answer: Answer,
     pub parts: Parts,
+}
+
+// ---- steps by their numbers
+
+// A message of a kind from panel i to panel j.
+pub fn delivery(kind: u8, i: u8, j: u8) -> Step
+    ensures { result ≡ delivery_step kind i j }
+{
+    Step::Deliver {
+        kind,
+        from: i,
+        to: j,
+    }
+}
+
+// 1 is a start of a write of v, 2 of a read by panel i, 3 a delivery of kind 0 to panel i that names no sender, 4 power loss of panel i;
+// any other number is no step.
+#[tactic(auto, unfolding(crate::specs::Acting::step_at, basics::specs::Choice::ite))]
+pub fn step_at(what: u8, i: u8, v: u32) -> Step
+    ensures { result ≡ step_at what i v }
+{
+    match what {
+        1 => Step::Write(v),
+        2 => Step::Read(i),
+        3 => delivery(0, 0, i),
+        4 => Step::Lose(i),
+        _ => Step::Rest(i),
+    }
 }
 
 // ---- places
@@ -80,13 +101,12 @@ pub fn actor(m: Step, writer: u8) -> usize
 {
     match m {
         Step::Write(_) => place_within(writer),
-        Step::Read(i) | Step::Lose(i) => place_within(i),
+        Step::Read(i) | Step::Lose(i) | Step::Rest(i) => place_within(i),
         Step::Deliver {
             kind: _,
             from: _,
             to,
         } => place_within(to),
-        Step::Rest => 0,
     }
 }
 
@@ -101,7 +121,7 @@ pub fn sender(m: Step, writer: u8) -> usize
             from,
             to: _,
         } => place_within(from),
-        Step::Write(_) | Step::Read(_) | Step::Lose(_) | Step::Rest => actor(m, writer),
+        Step::Write(_) | Step::Read(_) | Step::Lose(_) | Step::Rest(_) => actor(m, writer),
     }
 }
 
@@ -141,15 +161,6 @@ fn down_too(down: [bool; 7], i: u8) -> [bool; 7]
     down
 }
 
-fn with_down(x: Parts, i: u8) -> Parts
-    ensures { result ≡ with_down x i }
-{
-    Parts {
-        down: down_too(x.down, i),
-        ..x
-    }
-}
-
 // ---- what a panel's event comes to
 
 pub fn code_of(a: Answer) -> u8
@@ -161,23 +172,20 @@ pub fn code_of(a: Answer) -> u8
     }
 }
 
-// The panel has come to q, and what it sends goes into its channels; `from` are the sender's channels afterwards.
+// The panel has come to q, and what it sends goes into its channels; `from` are the sender's channels afterwards. In line in each step, where q is
+// known to lie apart from the parts: else the compiler asks for a `memmove`, which an archive for C would need from outside.
 #[tactic(auto, using(basics::proofs::Refusals::in_turn), unfolding(crate::specs::Acting::settled, basics::specs::Refusal::unless, basics::specs::Refusal::met, basics::specs::Choice::ite))]
-fn settle(x: Parts, from: Row, q: Next) -> Result<Accepted, Refusal>
-    ensures { moved_by x result ≡ settled x (with_from x from) q }
+#[inline(always)]
+fn settle(x: &mut Parts, from: Row, q: Next) -> Answer
+    ensures { record { answer = result; parts = x.new } ≡ settled x.old (with_from x.old from) q }
 {
     let finished = q.answer?;
     let posted = channels::post_all(x.own, q.sends);
     Refusal::ChannelFull.when(!posted.fits)?;
-    Ok(Accepted {
-        finished,
-        parts: Parts {
-            panel: q.panel,
-            from,
-            own: posted.row,
-            ..x
-        },
-    })
+    x.panel = q.panel;
+    x.from = from;
+    x.own = posted.row;
+    Ok(finished)
 }
 
 // A message of a kind from panel j comes to p; any byte that is no kind counts as a PROCEED.
@@ -193,80 +201,70 @@ fn come(p: Panel, kind: u8, j: u8, v: u32) -> Next
     }
 }
 
-// ---- the steps
+// ---- the steps, each made on the parts where they stand: refused, it leaves them as they were
 
 #[tactic(auto, using(basics::proofs::Refusals::in_turn), unfolding(crate::specs::Acting::written, crate::specs::Acting::write_trials, crate::specs::Acting::tried, basics::specs::Refusal::unless))]
-fn write(x: Parts, v: u32) -> Result<Accepted, Refusal>
-    ensures { moved_by x result ≡ written x v }
+fn write(x: &mut Parts, v: u32) -> Answer
+    ensures { record { answer = result; parts = x.new } ≡ written x.old v }
 {
     Refusal::PanelDown.when(is_down(x.down, x.writer))?;
-    settle(x, x.from, x.panel.after_write(v))
+    let q = x.panel.after_write(v);
+    settle(x, x.from, q)
 }
 
 #[tactic(auto, using(basics::proofs::Refusals::in_turn), unfolding(crate::specs::Acting::begun, crate::specs::Acting::read_trials, crate::specs::Acting::tried, basics::specs::Refusal::unless))]
-fn read(x: Parts, i: u8) -> Result<Accepted, Refusal>
-    ensures { moved_by x result ≡ begun x i }
+fn read(x: &mut Parts, i: u8) -> Answer
+    ensures { record { answer = result; parts = x.new } ≡ begun x.old i }
 {
     Refusal::NoSuchPanel.when(!form::is_panel(x.n, i))?;
     Refusal::PanelDown.when(is_down(x.down, i))?;
-    settle(x, x.from, x.panel.after_read())
+    let q = x.panel.after_read();
+    settle(x, x.from, q)
 }
 
 #[tactic(auto, using(basics::proofs::Refusals::in_turn), unfolding(crate::specs::Acting::delivered, crate::specs::Acting::deliver_trials, crate::specs::Acting::tried, basics::specs::Refusal::unless))]
-fn deliver(x: Parts, kind: u8, i: u8, j: u8) -> Result<Accepted, Refusal>
-    ensures { moved_by x result ≡ delivered x kind i j }
+fn deliver(x: &mut Parts, kind: u8, i: u8, j: u8) -> Answer
+    ensures { record { answer = result; parts = x.new } ≡ delivered x.old kind i j }
 {
     Refusal::NoSuchPanel.when(!is_pair(x.n, i, j))?;
     Refusal::PanelDown.when(is_down(x.down, j))?;
     let c = channels::channel_to(x.from, place_of(j));
     Refusal::NothingInFlight.when(!channels::has(c, kind))?;
     let q = come(x.panel, kind, i, channels::value_in(c, kind));
-    settle(x, channels::taken(x.from, place_of(j), kind), q)
+    let from = channels::taken(x.from, place_of(j), kind);
+    settle(x, from, q)
 }
 
 #[tactic(auto, using(basics::proofs::Refusals::in_turn), unfolding(crate::specs::Acting::lost, crate::specs::Acting::lose_trials, crate::specs::Acting::tried, basics::specs::Refusal::unless))]
-fn lose(x: Parts, i: u8) -> Result<Accepted, Refusal>
-    ensures { moved_by x result ≡ lost x i }
+fn lose(x: &mut Parts, i: u8) -> Answer
+    ensures { record { answer = result; parts = x.new } ≡ lost x.old i }
 {
     Refusal::NoSuchPanel.when(!form::is_panel(x.n, i))?;
     Refusal::PanelDown.when(is_down(x.down, i))?;
     Refusal::TooManyDown.when(!one_more_down(x.t, x.down))?;
-    Ok(Accepted {
-        finished: None,
-        parts: with_down(x, i),
-    })
-}
-
-// Refused, the parts are as they were.
-fn told(x: Parts, done: Result<Accepted, Refusal>) -> Moved
-    ensures { result ≡ moved_by x done }
-{
-    match done {
-        Ok(d) => Moved {
-            answer: Ok(d.finished),
-            parts: d.parts,
-        },
-        Err(refusal) => Moved {
-            answer: Err(refusal),
-            parts: x,
-        },
-    }
+    x.down = down_too(x.down, i);
+    Ok(None)
 }
 
 #[tactic(auto, unfolding(crate::specs::Acting::moved))]
+fn act_in_place(x: &mut Parts, m: Step) -> Answer
+    ensures { record { answer = result; parts = x.new } ≡ moved x.old m }
+{
+    match m {
+        Step::Write(v) => write(x, v),
+        Step::Read(i) => read(x, i),
+        Step::Deliver { kind, from, to } => deliver(x, kind, from, to),
+        Step::Lose(i) => lose(x, i),
+        Step::Rest(_) => Ok(None),
+    }
+}
+
 pub fn act(x: Parts, m: Step) -> Moved
     ensures { result ≡ moved x m }
 {
-    match m {
-        Step::Write(v) => told(x, write(x, v)),
-        Step::Read(i) => told(x, read(x, i)),
-        Step::Deliver { kind, from, to } => told(x, deliver(x, kind, from, to)),
-        Step::Lose(i) => told(x, lose(x, i)),
-        Step::Rest => Moved {
-            answer: Ok(None),
-            parts: x,
-        },
-    }
+    let mut parts = x;
+    let answer = act_in_place(&mut parts, m);
+    Moved { answer, parts }
 }
 
 // ---- in place
@@ -280,7 +278,7 @@ pub fn step_in_place(s: &mut Network, m: Step) -> Answer
     let to = actor(m, f.writer);
     let from = sender(m, f.writer);
     let down = s.down;
-    let x = Parts {
+    let mut x = Parts {
         n: f.n,
         t: f.t,
         writer: f.writer,
@@ -289,12 +287,11 @@ pub fn step_in_place(s: &mut Network, m: Step) -> Answer
         from: s.rows[from],
         own: s.rows[to],
     };
-    let moved = act(x, m);
-    let y = moved.parts;
-    s.panels[to] = y.panel;
-    s.rows[from] = y.from;
-    s.rows[to] = y.own;
-    let down = y.down;
+    let answer = act_in_place(&mut x, m);
+    s.panels[to] = x.panel;
+    s.rows[from] = x.from;
+    s.rows[to] = x.own;
+    let down = x.down;
     s.down = down;
-    moved.answer
+    answer
 }

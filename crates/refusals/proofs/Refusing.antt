@@ -4,7 +4,7 @@ use mathlib.Core.{Bool.{Bool, true, false, not}, List.{List, [], ◌∷◌, ◌+
 use Prim.Native.Nat.{ℕ, ◌-◌, ◌≤◌, ◌<◌}
 use native.Mathlib.Omega.{arith}
 use lib.Dec.{leb, ltb}
-use borrow.Author.Tests.{lt-ltb, le-ltb, le-leb, eq-eqb, ne_eqb, not-false}
+use borrow.Author.Tests.{lt-ltb, le-ltb, le-leb, lt-leb, eq-eqb, ne_eqb, not-false}
 use Rattle.std.specs.Prelude.{Ok}
 use Rattle.basics.proofs.Refusals.{passed, first-given, first-not, first-none, first_past, first_stops, none-met}
 use Rattle.basics.specs.Refusal.{Trial, first_of, met, refuse, number_of}
@@ -86,6 +86,10 @@ module _ (p : Tables) (room : ℕ) where
     unfolding write_trials
     write-8 h o w = sym (behind _ e ∙ first-not _ _ (ap not h) ∙ first-not _ _ (ap not o) ∙ first-given _ _ (le-leb _ _ w))
 
+    pub write-0 : at_writer p ≡ true → is_idle p.operation ≡ true → own_w p < 200 → 0 ≡ first_of (write_trials p room)
+    unfolding write_trials
+    write-0 h o w = sym (behind _ e ∙ first-not _ _ (ap not h) ∙ first-not _ _ (ap not o) ∙ first-not _ _ (lt-leb _ _ w) ∙ first-none)
+
     pub read-7 : is_idle p.operation ≡ false → 7 ≡ first_of (read_trials p room)
     unfolding read_trials
     read-7 o = sym (behind _ e ∙ first-given _ _ (ap not o))
@@ -93,6 +97,10 @@ module _ (p : Tables) (room : ℕ) where
     pub read-8 : is_idle p.operation ≡ true → 100 ≤ own_r p → 8 ≡ first_of (read_trials p room)
     unfolding read_trials
     read-8 o r = sym (behind _ e ∙ first-not _ _ (ap not o) ∙ first-given _ _ (le-leb _ _ r))
+
+    pub read-0 : is_idle p.operation ≡ true → own_r p < 100 → 0 ≡ first_of (read_trials p room)
+    unfolding read_trials
+    read-0 o r = sym (behind _ e ∙ first-not _ _ (ap not o) ∙ first-not _ _ (lt-leb _ _ r) ∙ first-none)
 
 -- ---- 11, 12 and 13; i and m are the panel's own number and the peer's as the code holds them
 

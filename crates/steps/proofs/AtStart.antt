@@ -157,14 +157,14 @@ module _ (n t writer v : ℕ) where
 -- ---- the call
 
 module _ (n t writer v : ℕ) where
+  pub set-up-refused : fits n t writer ≡ false → set_up n t writer v ≡ Err OutOfRange
+  unfolding set_up
+  set-up-refused no-fit = ap (λ (m : Result Unit Refusal). and_then m (Ok (fresh_network n t writer v))) (met-given _ _ (ap not no-fit))
+
   pub set-up-taken : fits n t writer ≡ true → set_up n t writer v ≡ Ok (fresh_network n t writer v)
   unfolding set_up
   set-up-taken ok =
       ap (λ (m : Result Unit Refusal). and_then m (Ok (fresh_network n t writer v))) (met-not _ _ (ap not ok) ∙ met-none)
-
-  pub set-up-refused : fits n t writer ≡ false → set_up n t writer v ≡ Err OutOfRange
-  unfolding set_up
-  set-up-refused no-fit = ap (λ (m : Result Unit Refusal). and_then m (Ok (fresh_network n t writer v))) (met-given _ _ (ap not no-fit))
 
   pub set-up-fits : (s : Network) → set_up n t writer v ≡ Ok s → fits n t writer ≡ true
   set-up-fits s z = by (fits n t writer) refl
